@@ -115,6 +115,14 @@ impl FirstCode {
         }
     }
 
+    /// Whether these bytes of a copy can stand behind the bytes that the code fills: the first begins with its last bits.
+    pub(crate) fn goes_on_with(&self, rest: &[u8]) -> bool {
+        match (self.more, rest) {
+            (Some(bits), [own, ..]) => bits.begin(*own),
+            _ => true,
+        }
+    }
+
     /// The bytes, and then these of the copy, the first of which completes the last bits of the code.
     pub(crate) fn followed_by(&self, alloc: Global, rest: &[u8]) -> Result<Vec<u8>, AllocError> {
         let mut all = Vec::from_slice(alloc, &self.bytes)?;

@@ -14,7 +14,9 @@
 //! - `claims`: what a copy says by itself, behind what is known
 //! - `shifts`, `runs`, `coded`: by how much bytes of a copy are moved. Where the code of lines and a copy have the same bytes
 //! - `chains`: lines of one copy in the code of another, and how many of them its bytes confirm
-//! - `settling`, `between`, `closing`: which lines are settled. Lines between settled ones, and pieces that close by themselves
+//! - `settling`, `choosing`: which lines are settled. Which of several readings of a line is taken
+//! - `between`, `closing`: lines between settled ones, and pieces that close by themselves
+//! - `trials`: lines that are supposed, so that a copy reads on behind them
 //! - `rounds`: all of that, until nothing more is decided
 //! - `mending`, `codings`, `edits`: the mended file of each coding, and the edits that make it of each copy
 //! - `rivals`: copies that read to their ends, and say otherwise
@@ -45,6 +47,10 @@
 //!    to a hint are taken, four rows behind the known ones at most. 12 bytes do for one row, where closed pieces settle nothing either.
 //! 9. Pieces that close by themselves count only where nothing else goes on, and in copies that agree with another somewhere. No such piece
 //!    may say otherwise. One that says otherwise of a settled line doesn't count, nor one with a disputed line.
+//! 10. Where nothing at all goes on, up to two rows that one copy says are supposed to be true. Another, which is damaged there, is read on
+//!     behind them at each place near. What it says is taken up to a run of the first copy behind its own damage. A disputed line is settled
+//!     so only if the other copy, by its own reading of it, breaks off before. Nothing is supposed if a copy says a disputed line in a
+//!     piece that closes.
 //!
 //! Where two copies have the same code, that code anew says nothing of its truth: garbage, coded anew, is the same garbage. There only what
 //! agrees from the start of an interval on is taken. Nothing else may go on, and no copy of another coding may say otherwise. It gives way
@@ -59,6 +65,7 @@
 
 mod between;
 mod chains;
+mod choosing;
 mod claims;
 mod closing;
 mod code;
@@ -78,6 +85,7 @@ mod runs;
 mod settling;
 mod shifts;
 mod strangers;
+mod trials;
 
 use crate::claims::{CopyState, Speaker};
 use crate::closing::has_contradiction;

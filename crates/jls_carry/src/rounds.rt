@@ -7,6 +7,7 @@ use crate::closing::settle_closed;
 use crate::codes::Codes;
 use crate::picture::Picture;
 use crate::settling::{Hints, Links, Settling, Tested};
+use crate::trials::settle_tried;
 use std::alloc::{AllocError, Global};
 
 /// How many rounds there are at most.
@@ -77,7 +78,8 @@ fn go_on(
         || settle_between(alloc, picture, copies, &tested)?
         || settling.settle_hinted(picture, Hints::Long)?
         || settle_closed(alloc, picture, copies, &settling.chains, &settling.links)?
-        || settling.settle_hinted(picture, Hints::Short)?;
+        || settling.settle_hinted(picture, Hints::Short)?
+        || settle_tried(alloc, picture, copies, &tested, &settling.chains)?;
     let Settling { links: now, .. } = settling;
     *links = now;
     Ok(is_any)

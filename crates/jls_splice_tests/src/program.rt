@@ -16,11 +16,11 @@ use std::test::Fail;
 /// is created; and lines that are printed, with ` | ` between them.
 ///
 /// Where a copy differs from its mended file was counted in the files, and in the damage: a byte that is 0 by itself doesn't differ. In
-/// *damage of one line in both* 12 lines stand before it. Their code fills 274 and 289 bytes of the files, by `interop/plain_coder.py`. The
-/// last bits of the twelfth stand in the next byte, which isn't known. By the same coder the third line of `broad` ends at byte 263, and
-/// the fourth of `broad_reset` begins at 278. In *two of them, and one is as well the other copy's* it codes the picture that has the second
-/// flip alone with RESET 3: at byte 271 it has another one than `reset`, and nowhere else. In *by sample, one place in all* four rows stand
-/// before it, whose code CharLS ends in 166 bytes.
+/// *damage of one line in both* 12 lines stand before it. Their code fills 274 and 289 bytes of the files, by `interop/plain_coder.py`.
+/// The last bits of the twelfth stand in the next byte, which isn't known. By the same coder the third line of `broad` ends at byte 263,
+/// and the fourth of `broad_reset` begins at 278. In *two of them, and one is as well the other copy's* it codes the picture that has the
+/// second flip alone with RESET 3: at byte 271 it has another one than `reset`, and nowhere else. In *by sample, one place in all* four
+/// rows stand before it, whose code CharLS ends in 166 bytes.
 ///
 /// How often a search of levels tries is counted by hand: at each place, each path that lives goes on by both ways. In *three intervals*
 /// each wrong way ends with its interval, so there are 2 tries at each of 3 places. In the rows of `deep` nothing dies without a limit, so
@@ -73,8 +73,14 @@ before 100
 where all differ, and a flipped bit of the restart interval: restarts: 20+1=6 45+3=0 140+3=0 / 70+3=0 140+3=85: OUT 1 2: 1 other: \
 before 140
 where all differ, and a zeroed header: eight: 0+25=0 100+8=0 300+8=0 / 200+8=0 300+8=85: OUT 1 2: 1 other: before 100
-two codings, and damage of one line in both: narrow: 300+8=0 / reset 300+8=0: OUT 1 2: 1 other: \
+two codings, and damage of one line in both: narrow: 280+8=0 / reset 298+8=0: OUT 1 2: 1 other: \
 coding 1, copies 1 | coding 2, copies 2 | copy 1 differs 274 155 0 | copy 2 differs 289 156 0 | promise lines | missing 1 11-19
+two codings, and damage of lines side by side: narrow: 300+8=0 / reset 300+8=0: OUT 1 2: 0 narrow: \
+coding 1, copies 1 | coding 2, copies 2 | copy 1 differs 300 8 8 | copy 2 differs 300 8 8
+two codings, and damage from the first line on: narrow: 60+8=0 / reset 40+8=0: OUT 1 2: 0 narrow: \
+coding 1, copies 1 | coding 2, copies 2 | copy 1 differs 60 8 8 | copy 2 differs 41 2 2 | copy 2 differs 44 4 4
+two codings, and one byte between their places: broad: 254+8=85 / broad_reset 286+8=85: OUT 1 2: 0 broad: \
+coding 1, copies 1 | coding 2, copies 2 | copy 1 differs 254 8 8 | copy 2 differs 286 8 8
 two codings, and two places in each: narrow: 64+5=0 233+3=lost / reset 159+6=lost 375+5=0: OUT 1 2: 0 narrow: \
 coding 1, copies 1 | coding 2, copies 2
 two codings, and no whole line between their places: broad: 200+8=85 / broad_reset 294+8=85: OUT 1 2: 0 broad: \
@@ -83,7 +89,7 @@ two codings, and a flipped bit in rows side by side: narrow: 363+1=3 411+4=0 / r
 coding 1, copies 1 | coding 2, copies 2 | copy 1 differs 363 1 1 | copy 1 differs 411 4 4 | copy 2 differs 351 1 1
 two codings, and few bytes between such rows: narrow: 209+1=184 400+4=0 / reset 207+1=136: OUT 1 2: 0 narrow: \
 coding 1, copies 1 | coding 2, copies 2 | copy 1 differs 209 1 1 | copy 1 differs 400 4 4 | copy 2 differs 207 1 1
-two codings, and no other way to a line: narrow: 60+8=0 / reset 40+8=0: OUT 1 2: 1 other: missing 1 0-19
+two codings, and no other way to a line: narrow: 30+8=0 / reset 50+8=0: OUT 1 2: 1 other: missing 1 0-19
 two codings, with intervals: fives: 445+8=0 / tens 355+8=0: OUT 1 2: 0 narrow: \
 coding 1, copies 1 | coding 2, copies 2 | copy 1 differs 446 7 7 | copy 2 differs 355 8 8
 a promise of two codings: fives: 445+8=0 / tens 355+8=0: OUT 1 2: 0 narrow: \
