@@ -16,7 +16,7 @@ use Rattle.jls_carried.specs.declared.carrying.Between.{Between}
 use Rattle.jls_station.specs.Given.{marked}
 use Rattle.jls_splice_run.specs.Listing.{NamedFile, numbered}
 use Rattle.jls_splice_run.specs.ReadsAs.{EachReadsAs}
-use Rattle.jls_splice_run.specs.declared.carried.HandedOut.{HandedOut}
+use Rattle.jls_splice_run.specs.declared.handed_out.HandedOut.{HandedOut}
 use Rattle.jls_splice_run.specs.declared.found.Promise.{Promise}
 use Rattle.jls_splice_run.specs.declared.found.Promise.TheVariants.{Held, Lines, Picture}
 

@@ -48,7 +48,7 @@ use Rattle.jls_splice_run.specs.Files.{count_new, is_eoi_added}
 use Rattle.jls_splice_run.specs.Listing.{AreCompleted, AreNamedAsked, NamedFile, named_files}
 use Rattle.jls_splice_run.specs.ReadsAs.{EachReadsAs}
 use Rattle.jls_splice_run.specs.Single.{IsSingleAsked}
-use Rattle.jls_splice_run.specs.declared.stages.FoundInTurn.{FoundInTurn}
+use Rattle.jls_splice_run.specs.declared.searched_parts.FoundInTurn.{FoundInTurn}
 use Rattle.jls_splice_run.specs.declared.made.Made.{Made as MadeValue}
 
 -- ---- what was found and made

@@ -1,16 +1,15 @@
-//! What is made of copies in several codings that gave each other something: whether something is handed out of it, and what.
+//! The texts and files of what copies in several codings gave each other.
 
-ghost use Rattle.std.specs.Prelude.{◌≡◌, ◌↔◌, ℕ, true, false, ◌<◌, ◌≤◌, ◌^◌, Option, IfOk, IfSome, IsTrue, None, OnOk, length, map};
+ghost use Rattle.std.specs.Prelude.{◌≡◌, ℕ, true, false, ◌<◌, ◌^◌, Option, IfOk, IfSome, None, length, map};
 ghost use Rattle.std.specs.Prelude.{option_map};
 ghost use Rattle.std.specs.declared.alloc.Global.{Global};
 ghost use Rattle.std.specs.declared.vec.Vec.{Vec};
 ghost use Rattle.std.specs.List.{AllByRecursion, Contains};
 ghost use Rattle.jls_diff.specs.Parts.{made};
-ghost use Rattle.jls_diff.specs.PartsOf.{bytes_of, parts_of};
-ghost use Rattle.jls_held.specs.Judging.{AreMendedOf, coding_of, codings_of};
+ghost use Rattle.jls_diff.specs.PartsOf.{bytes_of};
+ghost use Rattle.jls_held.specs.Judging.{AreMendedOf, codings_of};
 ghost use Rattle.jls_held.specs.Mending.{file_of};
-ghost use Rattle.jls_partial.specs.Partial.{PartialPicture, union};
-ghost use Rattle.jls_partial.specs.Status.{IsSettled};
+ghost use Rattle.jls_partial.specs.Partial.{PartialPicture};
 ghost use Rattle.jls_search.specs.Choices.{IsWhole};
 ghost use Rattle.jls_search.specs.Faultless.{IsFaultless};
 ghost use Rattle.jls_search.specs.Search.{lists_of};
@@ -20,28 +19,22 @@ ghost use Rattle.jls_splice_run.specs.Carrying as spec;
 ghost use Rattle.jls_splice_run.specs.Listing.{AreCompleted, AreNamedAsked, named_files};
 ghost use Rattle.jls_splice_run.specs.Making.{AreTextsOf, AreTextsOfJudged, IsCarriedMade, carried_made};
 ghost use Rattle.jls_splice_run.specs.Completing.{IsCompletedIn};
-ghost use Rattle.jls_splice_run.specs.ReadsAs.{EachReadsAs};
 ghost use Rattle.jls_splice_run.specs.Tasks.{task_of};
 ghost use Rattle.jls_splice_run.specs.declared.found.Promise.TheVariants.{Held as ForHeld};
-ghost use Rattle.jls_station.specs.Given.{marked};
 
 use crate::beside::put_beside;
 use crate::copies::slices_of;
 use crate::files::count_new;
-use crate::found::{Promise, SearchReport};
+use crate::found::SearchReport;
+use crate::handed_out::{HandedOut, handed_out};
 use crate::made::{Made, ceiling_reported, files_reported, groups_reported, lacks_file};
 use crate::mended_files::{is_eoi_added_to_handed, numbered_files, single_file};
-use crate::plain_edits::{are_flips_in_whole_copies, are_plain_edits};
 use crate::printed_lines::{lines_of_carried, notes_of_carried};
-use crate::reading_as::{are_one_picture, each_reads_as};
-use crate::stages::FoundInTurn;
+use crate::searched_parts::FoundInTurn;
 use crate::task::{Task, has_lists};
-use jls_carried::{Between, SearchBounds, are_all_printed, carry_between};
-use jls_held::{EditedCopy, Judged, MendedCopy};
-use jls_partial::Partial;
+use jls_carried::{Between, SearchBounds, carry_between};
 use jls_search::{Files, HeldFiles};
 use jls_station::CopyFile;
-use jls_values::Merge;
 use std::alloc::{AllocError, Global};
 
 /// Whether none of the verdicts on files says that a file has no fault.
@@ -57,176 +50,11 @@ fn is_none_faultless(verdicts: &[bool]) -> bool
     true
 }
 
-/// The promise that holds.
-fn carried_promise(
-    codings: &[Vec<EditedCopy>],
-    strangers: &[usize],
-    is_held: bool,
-    are_read: bool,
-) -> Promise
-    ensures { result ≡ spec.promise_for (codings_of codings.now) strangers.now is_held are_read }
-{
-    if is_held && are_read && are_all_printed(codings) && strangers.is_empty() {
-        Promise::Held
-    } else {
-        Promise::Lines
-    }
-}
-
-/// Adds the source to each reading, if there is one.
-fn mark(picture: &mut Partial, source: Option<u32>) -> Result<(), AllocError>
-    ensures { OnOk result (picture.new ≡ marked source picture.old) }
-{
-    match source {
-        Some(number) => picture.mark(number),
-        None => Ok(()),
-    }
-}
-
-/// Takes what files give to what is held. `Err` comes where memory is refused, and where their shapes differ.
-fn join(held: &mut Partial, given: &Partial) -> Result<(), AllocError>
-    ensures { OnOk result (held.new ≡ union held.old given.now) }
-{
-    match held.merge(given) {
-        Ok(()) => Ok(()),
-        Err(_) => Err(AllocError),
-    }
-}
-
-/// What is handed out: the held lines under the source, if the picture is promised. Else it is these and what the files taken give.
-fn handed(
-    held: Partial,
-    given: &Partial,
-    promise: Promise,
-    source: Option<u32>,
-) -> Result<Partial, AllocError>
-    ensures { IfOk result (λ picture. picture ≡ spec.handed_by promise source held given.now) }
-{
-    let mut picture = held;
-    match promise {
-        Promise::Held => mark(&mut picture, source)?,
-        Promise::Picture(_) | Promise::Lines => join(&mut picture, given)?,
-    }
-    Ok(picture)
-}
-
 /// How many copies there are.
 fn count_copies(files: &Files<'_, '_>) -> usize
     ensures { result ≡ length files.now.copies.now }
 {
     files.copies.len()
-}
-
-/// Whether each line is held, and the mended files were found to read so.
-fn are_read_as(
-    alloc: Global,
-    files: &[MendedCopy],
-    held: &Partial,
-    is_held: bool,
-) -> Result<bool, AllocError>
-    ensures { IfOk result (λ are. IsTrue are → EachReadsAs held.now (map file_of files.now)) }
-{
-    if !is_held {
-        return Ok(false);
-    }
-    each_reads_as(alloc, files, held)
-}
-
-/// Whether the edits of what is not doubtful are believed. If the files without a fault are one picture, these edits may flip bits of such
-/// copies, and no more.
-fn are_believed(
-    copies: &[&[u8]],
-    codings: &[Vec<EditedCopy>],
-    faultless: &[bool],
-    given: &Partial,
-    is_alone: bool,
-) -> bool {
-    is_alone || !given.is_settled() || are_flips_in_whole_copies(copies, codings, faultless)
-}
-
-/// What is handed out of what copies in several codings gave each other, and the files that it rests on.
-#[derive(Drop)]
-pub(crate) struct HandedOut {
-    /// Of each coding its copies, with the edits of each.
-    pub(crate) codings: Vec<Vec<EditedCopy>>,
-    /// The mended file of each coding.
-    pub(crate) mended: Vec<MendedCopy>,
-    /// The copies that agree with no other, by their indices.
-    pub(crate) strangers: Vec<usize>,
-    /// Whether the mended files hold each line.
-    pub(crate) is_held: bool,
-    /// Whether each mended file was found to read as the lines that are held.
-    pub(crate) are_read: bool,
-    /// The promise that holds.
-    pub(crate) promise: Promise,
-    /// The picture.
-    pub(crate) picture: Partial,
-    /// Whether each line of it is settled.
-    pub(crate) is_settled: bool,
-}
-
-/// What is handed out of what copies in several codings gave each other. If a file taken may be without a fault, `None` comes unless that
-/// speaks against it. It does if a promised picture is another one, or a line has several readings, or was left open before one that is
-/// settled. If such files differ, `None` comes unless a picture is promised, and its edits say plainly which are wrong (`plain_edits`). If
-/// they are one picture, none is promised whose edits change more of such a copy than flipped bits. Nor is one promised that is doubtful.
-fn handed_out(
-    alloc: Global,
-    copies: &[&[u8]],
-    faultless: &[bool],
-    given: &Partial,
-    source: Option<u32>,
-    between: Between,
-    is_alone: bool,
-) -> Result<Option<HandedOut>, AllocError>
-    ensures codings { IfOk result (λ out. IfSome out (λ h. h.codings ≡ between.judged.codings)) }
-    ensures mended { IfOk result (λ out. IfSome out (λ h. h.mended ≡ between.judged.files)) }
-    ensures strangers { IfOk result (λ out. IfSome out (λ h. h.strangers ≡ between.strangers)) }
-    ensures held { IfOk result (λ out. IfSome out (λ h. IsTrue h.is_held ↔ IsSettled between.judged.held)) }
-    ensures read { IfOk result (λ out. IfSome out (λ h. IsTrue h.are_read
-        → EachReadsAs between.judged.held (map file_of between.judged.files.items))) }
-    ensures promise { IfOk result (λ out. IfSome out (λ h. h.promise
-        ≡ spec.promise_for (codings_of between.judged.codings.items) between.strangers.items h.is_held h.are_read)) }
-    ensures picture { IfOk result (λ out. IfSome out (λ h. h.picture ≡ spec.handed_by h.promise source between.judged.held given.now)) }
-    ensures settled { IfOk result (λ out. IfSome out (λ h. IsTrue h.is_settled ↔ IsSettled h.picture)) }
-{
-    let Between {
-        judged,
-        strangers,
-        is_doubtful,
-    } = between;
-    let Judged {
-        codings,
-        files: mended,
-        held,
-    } = judged;
-    let is_held = held.is_settled();
-    let is_believed = are_believed(copies, &codings, faultless, given, is_alone);
-    let is_asked = is_held & is_believed & !is_doubtful;
-    let are_read = are_read_as(alloc, &mended, &held, is_asked)?;
-    let promise = carried_promise(&codings, &strangers, is_held, are_read);
-    if !is_alone && promise == Promise::Held && are_one_picture(&held, given) {
-        return Ok(None);
-    }
-    let is_told = promise == Promise::Held && are_plain_edits(copies, &codings);
-    if !is_alone && !given.is_settled() && !is_told {
-        return Ok(None);
-    }
-    let picture = handed(held, given, promise, source)?;
-    let is_settled = picture.is_settled();
-    let is_unopposed = is_settled && !is_doubtful;
-    if !is_alone && promise == Promise::Lines && is_unopposed {
-        return Ok(None);
-    }
-    Ok(Some(HandedOut {
-        codings,
-        mended,
-        strangers,
-        is_held,
-        are_read,
-        promise,
-        picture,
-        is_settled,
-    }))
 }
 
 /// The lines, the text and the files of what is handed out. `verdicts` are those on the files taken.

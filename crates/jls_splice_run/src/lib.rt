@@ -6,7 +6,8 @@
 //! - `inputs`: what it reads: copies, lists of their bad places, and witnesses
 //! - `copies`, `made`, `settling`: the copies that are read; what is made of them; their station
 //! - `bad_lists`: the lists of bad places that are read, and what is searched by them in place of the copies
-//! - `carried`, `coding_lines`: what is made of what copies in several codings give each other; its lines
+//! - `handed_out`, `carried`, `coding_lines`: what is handed out of what copies in several codings give each other; its texts and files;
+//!   its lines
 //! - `mended_files`: the mended files that are handed out
 //! - `plain_edits`: whether the edits of copies say plainly which of these are wrong
 //! - `beside`: mended files beside files of which one may have no fault
@@ -16,7 +17,8 @@
 //! - `printed_lines`, `noting`: the lines that are printed; those on the fault output, where OUT is standard output
 //! - `handing`: the events that hand out all
 //! - `options`, `searching`: how a search is made; a search that goes on 64 tries at a time, and tells how far it is
-//! - `stages`: all searches of a run: the one that is asked for, and where it is cut off, others under ceilings in turn; groups
+//! - `searched_parts`: the parts over which is searched, and groups
+//! - `stages`: all searches over some parts: the one that is asked for, and where it is cut off, others under ceilings in turn
 //! - `shallow`: the ceiling under which a cut file is sought, where the searches had none and found nothing
 //! - `differences`: where copies differ: the offset in the first copy, and how many bytes that one has there
 //! - `found`, `lines`: what is reported of a search, as one value; its lines, and the line that says how far a search is
@@ -46,6 +48,7 @@ mod copies;
 mod differences;
 mod files;
 mod found;
+mod handed_out;
 mod handing;
 mod hosted;
 mod inputs;
@@ -60,6 +63,7 @@ mod printed_lines;
 mod printing;
 mod program;
 mod reading_as;
+mod searched_parts;
 mod searching;
 mod settling;
 mod shallow;
@@ -81,6 +85,6 @@ pub use printing::{
     PROGRAM, print_bad_value, print_named_twice, print_not_understood, print_numbered_out,
 };
 pub use program::run;
+pub use searched_parts::{FoundInTurn, search_and_tell};
 pub use splicing::splice;
-pub use stages::{FoundInTurn, search_and_tell};
 pub use task::Task;

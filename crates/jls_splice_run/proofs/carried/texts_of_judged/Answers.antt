@@ -18,7 +18,7 @@ use Rattle.jls_splice_run.specs.Listing.{AreCompleted, AreNamedAsked, named_file
 use Rattle.jls_splice_run.specs.Making.{AreTextsOf, carried_made}
 use Rattle.jls_splice_run.specs.ReadsAs.{EachReadsAs}
 use Rattle.jls_splice_run.specs.Tasks.{task_of}
-use Rattle.jls_splice_run.specs.declared.carried.HandedOut.{HandedOut}
+use Rattle.jls_splice_run.specs.declared.handed_out.HandedOut.{HandedOut}
 use Rattle.jls_splice_run.specs.declared.found.Promise.TheVariants.{Held}
 use Rattle.jls_splice_run.proofs.BesideFiles.{none_has_a_fault, promised_are_read}
 use Rattle.jls_splice_run.proofs.carried.texts_of_judged.Goals as goal

@@ -20,7 +20,7 @@ use Rattle.jls_splice_run.specs.Carrying.{IsCarried, carried_of}
 use Rattle.jls_splice_run.specs.Listing.{AreNamedAsked, named_files}
 use Rattle.jls_splice_run.specs.Single.{IsSingleAsked}
 use Rattle.jls_splice_run.specs.Tasks.{task_of}
-use Rattle.jls_splice_run.specs.declared.stages.FoundInTurn.{FoundInTurn}
+use Rattle.jls_splice_run.specs.declared.searched_parts.FoundInTurn.{FoundInTurn}
 use Rattle.jls_splice_run.specs.declared.options.SearchOptions.{SearchOptions}
 use Rattle.jls_splice_run.proofs.MakingLemmas.{cut_mapped, found_mapped, mapped_twice}
 use Rattle.jls_splice_run.proofs.Told.{tells_none}

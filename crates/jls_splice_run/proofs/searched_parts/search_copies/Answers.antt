@@ -1,5 +1,5 @@
 use Rattle.jls_splice_run.proofs.Told.{tells_none, tells_on}
-use Rattle.jls_splice_run.proofs.stages.search_copies.Goals as goal
+use Rattle.jls_splice_run.proofs.searched_parts.search_copies.Goals as goal
 
 pub returns-in_err-parts-clause-told : goal.returns-in_err-parts-clause-told
 returns-in_err-parts-clause-told g c = tells_none c.args.options.tells (g.E.Device.history c.args.faults.now)

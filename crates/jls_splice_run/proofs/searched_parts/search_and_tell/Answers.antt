@@ -7,7 +7,7 @@ use Rattle.jls_splice_run.specs.Ceilings.{KeepsCeiling}
 use Rattle.jls_splice_run.proofs.KeptCeilings.{keeps_on}
 use Rattle.jls_splice_run.proofs.MakingLemmas.{first_is_short, some_copy}
 use Rattle.jls_splice_run.proofs.Told.{tells_none}
-use Rattle.jls_splice_run.proofs.stages.search_and_tell.Goals as goal
+use Rattle.jls_splice_run.proofs.searched_parts.search_and_tell.Goals as goal
 
 pub returns-then-not-are_short-clause-told : goal.returns-then-not-are_short-clause-told
 returns-then-not-are_short-clause-told g c = tells_none c.args.options.tells (g.E.Device.history c.args.faults.now)

@@ -1,6 +1,6 @@
 use Rattle.jls_diff.specs.PartsOf.{bytes_of}
 use Rattle.jls_splice_run.proofs.MakingLemmas.{some_copy}
-use Rattle.jls_splice_run.proofs.stages.search_over.Goals as goal
+use Rattle.jls_splice_run.proofs.searched_parts.search_over.Goals as goal
 
 pub search_all-requires-clause-short : goal.search_all-requires-clause-short
 search_all-requires-clause-short g c =

@@ -4,7 +4,7 @@ use Rattle.jls_held.specs.Mending.{file_of}
 use Rattle.jls_held.specs.declared.mending.MendedCopy.{MendedCopy}
 use Rattle.jls_splice_run.specs.Carrying.{promise_for}
 use Rattle.jls_splice_run.specs.ReadsAs.{EachReadsAs}
-use Rattle.jls_splice_run.proofs.carried.handed_out.Goals as goal
+use Rattle.jls_splice_run.proofs.handed_out.handed_out.Goals as goal
 
 pub returns-clause-read : goal.returns-clause-read
 returns-clause-read c = λ are.
