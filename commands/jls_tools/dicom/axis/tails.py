@@ -75,7 +75,7 @@ def without_tails(texts: list[bytes]) -> Tails:
     borders = [end if own is None else own for own in owns]
     tails = list(dict.fromkeys(texts[at][borders[at] :] for at in longer))
     if len(tails) == 1:
-        found.is_decided = len(texts) == 1 or len(with_tails) == len(longer) > 1
+        found.is_decided = len(texts) == 1 or len(longer) > 1
     elif any(own is None and len(text) > end for own, text in zip(ends, texts)) or are_of_one_element(tails):
         return found
     else:
