@@ -87,7 +87,7 @@ def damaged_value(true: bytes, at: int) -> bytes:
     return changed(true, (at - 60, bytes(20)))
 
 
-def checks_of_transfers(bench: Bench, made: File, small: File) -> Iterator[Check]:
+def checks_of_transfers(bench: Bench, made: File, small: File, single: File) -> Iterator[Check]:
     """A carriage return before each line feed of a copy is taken out again, if the copy has then the length of another one."""
     lines = b"".join(b"<Step.%d> of a slice\n" % at for at in range(60))
     for name, text in (("line feeds", lines), ("carriage returns and line feeds", lines.replace(b"\n", b"\r\n") + bytes([10, 7] * 40))):
@@ -100,8 +100,8 @@ def checks_of_transfers(bench: Bench, made: File, small: File) -> Iterator[Check
         for copies in ([sent, later], [sent, true[: len(true) // 2]], [later, later, sent]):
             yield case(bench, f"{name}, each copy sent as text", copies, 0, true, "carriage return before each line feed")
         both = [changed(later, (sent.index(b"MONOCHROME2") - 4, b"??")), changed(sent, (sent.index(b"MONOCHROME2") - 4, b"!!"))]
-        printed = bench.mend(both)[2]
-        yield f"{name}, and neither copy reads: nothing is undone ({printed})", "carriage return" not in printed
+        status, _, printed, _, _ = bench.mend(both)
+        yield f"{name}, and neither copy reads: it is undone ({status}, {printed})", status == 1 and "carriage return" in printed
     true, at = with_value(made, 4 * lines.replace(b"\n", b"\r\n"))
     copies = [sent_as_text(true), damaged_value(true, at)]
     yield case(bench, "carriage returns and line feeds alone, one copy sent as text", copies, 0, true, "carriage return before each")
@@ -109,6 +109,7 @@ def checks_of_transfers(bench: Bench, made: File, small: File) -> Iterator[Check
     few, place = with_value(made, lines + b"of a slice\r\n" * 12)
     yield case(bench, "some line feeds, and as many lost bytes", [few, few[: place + 700] + few[place + 712 :]], 0, few)
     yield from of_few_returns(bench, made, small)
+    yield from of_returns_in_code(bench, made, small, single)
     for copies in ([true, noise], [noise, true]):
         status, out, printed, _, _ = bench.mend(copies)
         yield f"line feeds of noise in the other copy ({status}, {printed})", "carriage return" not in printed and out in (None, true)
@@ -131,6 +132,29 @@ def of_few_returns(bench: Bench, made: File, small: File) -> Iterator[Check]:
     status, out, printed, _, _ = bench.mend([more, changed(whole, (made_items(whole, made)[0] + 70, bytes(8)))])
     is_safe = out in (None, whole) and (out is None) == (status != 0)
     yield f"a true carriage return, and a byte put in: nothing false ({status}, {printed})", is_safe
+
+
+def of_returns_in_code(bench: Bench, made: File, small: File, single: File) -> Iterator[Check]:
+    """Codestreams show a transfer of a copy that lost bytes, or has too many. Texts and few line feeds don't, nor those of a half."""
+    true, (first, second, *_) = made.bytes, made.items
+    block, lost = true[: first + 60] + true[first : second], true[: second + 60] + true[second + 90 :]
+    hurt = changed(true, (made.items[2] + 70, bytes(8)))
+    for name, copy in (("a block twice", block + true[second:]), ("a loss", lost)):
+        yield case(bench, f"{name}, sent as text", [sent_as_text(copy), hurt], 0, true, "carriage return before each line feed")
+        yield case(bench, f"{name}, each copy sent as text", [sent_as_text(copy), sent_as_text(hurt)], 0, true, "carriage return before")
+    lines, _ = with_value(single, b"a line\r\n" * 400)
+    code, at = lines.index(single.frames[0]), small.name_at - 8
+    several = b"".join(element(0x91002 + number, "LT", "a line\r\n") for number in range(60))
+    copies = {
+        "few line feeds": sent_as_text(with_value(small, b"a line\n" * 400)[0]),
+        "a text over the code": changed(lines, (code + 90, b"again and again\r\n" * 40)),
+        "a part of the code sent as text": with_value(made, b"a line\r\n" * 400)[0] + 3 * sent_as_text(true[first:]),
+        "elements that end with a line": small.bytes[:at] + several + small.bytes[at:],
+    }
+    for name, copy in copies.items():
+        broken = changed(copy, (copy.index(b"MONOCHROME2") - 4, b"??"))
+        printed = bench.mend([broken[:-9], changed(broken, (140, b"\7"))])[2]
+        yield f"{name}: nothing is undone ({printed})", "carriage return" not in printed
 
 
 def made_items(data: bytes, made: File) -> list[int]:

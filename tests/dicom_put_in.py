@@ -7,7 +7,10 @@ from collections.abc import Iterator, Sequence
 
 from dicom_files import Bench, File, changed, element, with_value
 from dicom_pairs import told
+from dicom_rules import csa_header
 from jls_tools.dicom.axis.align import Copy, on_one_axis
+from jls_tools.dicom.axis.inserted import without
+from jls_tools.dicom.layout import Layout, is_out_of_chain
 
 Check = tuple[str, bool]
 PAGE, LANE = 4096, 64
@@ -82,6 +85,31 @@ def checks_of_zeros_behind(bench: Bench, made: File, rng: random.Random) -> Iter
     yield told(bench, "bytes put into a value that ends with zeros", [more, hurt[0]], true, False, 1)
     yield told(bench, "the same, and two copies lack them", [hurt[1], more, hurt[0]], true)
     yield told(bench, "the same, and one of both is cut", [hurt[1][: begin + 200], more, hurt[0]], true, False, 1)
+    yield from checks_of_chains_put_into(bench, made, rng)
+
+
+def checks_of_chains_put_into(bench: Bench, made: File, rng: random.Random) -> Iterator[Check]:
+    """Bytes put into a CSA header that ends with zeros: its items say that they are none of it, but in these zeros."""
+    value = csa_header(rng) + bytes(40)
+    true, begin = with_value(made, value)
+    text, end = true.index(b"sSlice[30]"), begin + len(value)
+    hurt = changed(true, (true.index(made.frames[0]) + 70, bytes(8)))
+    yield told(bench, "bytes put into a CSA header", [put(true, text, rng.randbytes(8)), hurt], true)
+    lost = put(hurt, text, b"\x91\x3c")
+    lost = lost[: text + 600] + lost[text + 700 :]
+    yield told(bench, "the same, and two and a loss in the other copy", [put(true, text - 300, rng.randbytes(8)), lost], true)
+    wrong = true.index(b"Field5\0") - 3
+    broken = [changed(copy, (wrong, b"\x91")) for copy in (put(true, text, rng.randbytes(8)), hurt)]
+    yield told(bench, "a CSA header that is broken in both", broken, changed(true, (wrong, b"\x91")), False)
+    # An empty element behind it, whose header is zeroed in both copies, of which one lost as many zeros
+    more = put(true, end, element(0x91002, "LO", ""))
+    both = [put(true, end, bytes(8)), hurt]
+    yield told(bench, "zeros of a CSA header lost, and the next header zeroed in both", both, more, False, 1)
+    for name, new, is_out in (("zeros put into those behind a CSA header", bytes(8), False), ("other bytes", b"\x91" * 8, True)):
+        part, data = (end - 20, end - 12), put(true, end - 20, new)
+        copies = [Copy("a", data), Copy("b", data, [part])]
+        found = is_out_of_chain(copies, Layout(without(copies, [part])), part, [part])
+        yield f"{name}: it says whether they are none of it ({found})", found == is_out
 
 
 def checks_of_elements_lost(bench: Bench, made: File, rng: random.Random) -> Iterator[Check]:

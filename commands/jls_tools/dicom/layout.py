@@ -2,7 +2,7 @@
 from __future__ import annotations
 
 import itertools
-from collections.abc import Sequence
+from collections.abc import Iterator, Sequence
 from typing import Optional
 
 from jls_tools.dicom.axis import in_filler, inserted
@@ -13,10 +13,11 @@ from jls_tools.dicom.axis.inserted import SMALLEST_ELEMENT
 from jls_tools.dicom.axis.placed import placed
 from jls_tools.dicom.axis.runs import FINEST, Runs
 from jls_tools.dicom.axis.stuck import unstuck
+from jls_tools.dicom.evidence.csa import is_chain
 from jls_tools.dicom.evidence.header import Header
 from jls_tools.dicom.evidence.most import agreed
 from jls_tools.dicom.evidence.tables import Table
-from jls_tools.dicom.read.elements import UNDEFINED
+from jls_tools.dicom.read.elements import UNDEFINED, Element
 from jls_tools.dicom.read.tags import EXTENDED_LENGTHS, EXTENDED_TABLE, FRAMES
 from jls_tools.dicom.walk.frames import Fragments, FramePlace
 from jls_tools.dicom.walk.structure import Structure
@@ -102,8 +103,11 @@ class Layout:
 
     def goes_on(self, place: int, size: int) -> bool:
         """Whether the value that holds a place goes on for so many bytes after it: then no element begins there that copies lost."""
-        leaves = (step.element for step in self.structure.steps if step.kind == "leaf" and step.element)
-        return any(element.value < place <= element.end - size for element in leaves)
+        return any(leaf.value < place <= leaf.end - size for leaf in self.leaves())
+
+    def leaves(self) -> Iterator[Element]:
+        """The elements that are no sequences."""
+        return (step.element for step in self.structure.steps if step.kind == "leaf" and step.element)
 
     def can_hide_element(self, place: int, sizes: dict[int, int]) -> bool:
         """Whether the value that holds a place can end with an element whose header is damaged in each copy.
@@ -111,8 +115,8 @@ class Layout:
         It has taken that in if other copies lost as many bytes of it. `sizes` are those that were cut out, by place. Damage that is the
         same in all copies is of one value.
         """
-        for element in (step.element for step in self.structure.steps if step.kind == "leaf"):
-            if element is not None and element.value <= place <= element.end:
+        for element in self.leaves():
+            if element.value <= place <= element.end:
                 own = [size for at, size in sizes.items() if element.value <= at <= element.end]
                 sums = {sum(part) for count in range(1, len(own) + 1) for part in itertools.combinations(own, count)}
                 return any(self.can_begin_at(element.end - size) for size in sums if SMALLEST_ELEMENT <= size <= element.length)
@@ -217,7 +221,17 @@ def is_put_in(copies: Sequence[Copy], layout: Layout, part: Range, parts: Sequen
         return True
     is_no_element = inserted.is_no_element(copies, part) or layout.goes_on(place, part[1] - part[0])
     is_lacked_twice = sum(part in copy.absent for copy in copies) > 1  # no two copies lost the same bytes of which the other has damage
-    return inserted.is_clear(copies, part) and (is_lacked_twice or is_no_element and not layout.can_hide_element(place, sizes))
+    is_hidden = layout.can_hide_element(place, sizes) and not is_out_of_chain(copies, layout, part, parts)
+    return inserted.is_clear(copies, part) and (is_lacked_twice or is_no_element and not is_hidden)
+
+
+def is_out_of_chain(copies: Sequence[Copy], layout: Layout, part: Range, parts: Sequence[Range]) -> bool:
+    """Whether the value that holds a range is a CSA header without it, and none with it: its items say how long each is."""
+    place = inserted.place_without(part[0], parts)
+    value = next((slice(leaf.value, leaf.end) for leaf in layout.leaves() if leaf.value < place < leaf.end), slice(0))
+    others = [each for each in parts if each != part]
+    ways = ([inserted.cut_out(copy.data, ranges)[value] for ranges in (parts, others)] for copy in copies)
+    return any(is_chain(without) and not is_chain(beside) for without, beside in ways)
 
 
 def told_of(copies: Sequence[Copy], part: Range) -> tuple[str, int, int]:

@@ -1,17 +1,22 @@
 """Copies that a transfer took for text: it put a carriage return before each line feed. As each has got one, that can be undone.
 
-It is undone in a copy that reads to its end then, and did not before, and in one that has then the length of another one.
+It is undone in a copy that reads to its end then, and did not before, and in one that has then the length of another one. Codestreams have
+a carriage return before few line feeds by chance: where nearly all of them have one, it is undone too, whatever else the copy lost or got.
 Other transfers take the carriage returns away that stand before line feeds.
 """
 from __future__ import annotations
 
+import re
 from collections.abc import Sequence
 
 from jls_tools.dicom.axis.align import Copy
 from jls_tools.dicom.axis.tails import end_of
+from jls_tools.dicom.read.elements import PIXELS_BEGIN
 
 SHARE = 0.9  # of the line feeds such a share has a carriage return before it; damage can make others
-LEAST = 8  # so many line feeds, at least, have one where nothing but the length shows a transfer
+LEAST = 8  # so many line feeds, at least, have one where nothing but the length, or codestreams alone, show a transfer
+BESIDE = 4  # so many bytes before and behind a line feed are not all of a text where it is of a codestream
+LINE_END, NO_TEXT = re.compile(rb"\r?\n"), re.compile(rb"[^\t\n\r\x20-\x7e]")
 
 
 def as_text(text: bytes) -> bool:
@@ -20,13 +25,27 @@ def as_text(text: bytes) -> bool:
     return 0 < both >= SHARE * text.count(b"\n")
 
 
+def is_coded_as_text(text: bytes) -> bool:
+    """Whether nearly all line feeds of its codestreams, of which there are many, have a carriage return before them."""
+    begin = max((found.end() for found in PIXELS_BEGIN.finditer(text)), default=len(text))
+    ends = [found for found in LINE_END.finditer(text, begin) if is_in_code(text, found.start(), found.end())]
+    both = sum(len(found.group()) > 1 for found in ends)
+    return LEAST <= both >= SHARE * len(ends)
+
+
+def is_in_code(text: bytes, begin: int, end: int) -> bool:
+    """Whether the bytes beside a line feed are not all of a text: then no sector of a text stands there."""
+    return bool(NO_TEXT.search(text[max(0, begin - BESIDE) : begin] + text[end : end + BESIDE]))
+
+
 def undone(texts: Sequence[bytes]) -> dict[int, bytes]:
     """{a copy that was transferred as text: what it was before}."""
     binaries = {at: text.replace(b"\r\n", b"\n") for at, text in enumerate(texts) if as_text(text)}
     reading = {at: binary for at, binary in binaries.items() if end_of(texts[at]) is None and end_of(binary) is not None}
     sizes = [len(reading.get(at, text)) for at, text in enumerate(texts)]
     many = {at for at in binaries if texts[at].count(b"\r\n") >= LEAST}
-    return {at: binary for at, binary in binaries.items() if at in reading or at in many and len(binary) in sizes[:at] + sizes[at + 1 :]}
+    sure = {*reading, *(at for at in many if len(binaries[at]) in sizes[:at] + sizes[at + 1 :])}
+    return {at: binary for at, binary in binaries.items() if at in sure or is_coded_as_text(texts[at])}
 
 
 def lost_returns(copy: Copy, copies: Sequence[Copy]) -> bool:
