@@ -221,6 +221,12 @@ def checks_of_runs(bench: Bench, made: File, rng: random.Random) -> Iterator[Che
         "a block lost in each of two copies, near each other": (true, [cut, lost]),
         "bytes put into each of three copies": (made.bytes, [put(made.bytes, *each) for each in more]),
     }
+    form, few = b"sSlice[%d].sPosition.dTra = %d\nsSlice[%d].sNormal.dCor = %d\n", random.Random(5)
+    lines = b"".join(form % (n // 7, few.randrange(10), n // 7, few.randrange(10)) for n in range(500))
+    words, at = with_value(made, lines)
+    one = put(words[: at + 4692] + words[at + 6152 :], at + 2000, few.randbytes(2))
+    other = put(words[: at + 19985] + words[at + 21009 :], at + 2500, few.randbytes(5))
+    cases["losses and bytes put in, of a text that repeats much"] = words, [one, other]
     for name, (wanted, copies) in cases.items():
         yield told(bench, name, copies, wanted)
 

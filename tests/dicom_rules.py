@@ -189,6 +189,23 @@ def checks_of_exchanged_bytes(bench: Bench, made: File, rng: random.Random) -> I
             status, out, printed, faults, _ = bench.mend(copies)
             wanted = (0, true) if is_back else (1, None)
             yield f"bytes exchanged in {name}: {wanted[0]} ({status}, {printed}, {faults})", (status, out) == wanted
+    yield from checks_of_exchanged_lengths(bench, made)
+
+
+def checks_of_exchanged_lengths(bench: Bench, made: File) -> Iterator[Check]:
+    """A length with its two bytes exchanged leads over other elements of the sector, and is no less strange than these."""
+    values: dict[str, bytes | str | int] = {"SS": 0, "US": 0, "SL": bytes(4), "DS": "1.50"}
+    lines = b"".join(b"line %d of a text\n" % (number * 7919 % 1000) for number in range(40))
+    for seed in (1, 15, 16, 17, 22):
+        rng = random.Random(seed)
+        text, begin = with_value(made, lines[: 300 + 2 * rng.randrange(40)])
+        at, names = text.index(element(0x100010, "PN", "Doe^Jane")), rng.choices(["SS", "SS", "SS", "US", "SL", "DS"], k=300)
+        true = text[:at] + b"".join(element(0x91002 + number, vr, values[vr]) for number, vr in enumerate(names)) + text[at:]
+        hurt = changed(true, (true.index(made.frames[0]) + 70, bytes(8)))
+        lost = true[: begin + 100] + true[begin + 150 :]
+        for name, copy in (("elements", exchanged(true, 1536)), ("elements of a copy that lost others", exchanged(lost, 1536))):
+            status, out, printed, faults, _ = bench.mend([copy, hurt])
+            yield f"{seed}: bytes exchanged in {name}: the same file ({status}, {printed}, {faults})", (status, out == true) == (0, True)
 
 
 def checks_of_series(bench: Bench, made: File) -> Iterator[Check]:

@@ -5,10 +5,10 @@ import itertools
 from collections.abc import Iterator, Sequence
 from typing import Optional
 
-from jls_tools.dicom.axis import in_filler, inserted
+from jls_tools.dicom.axis import exchanged, in_filler, inserted
 from jls_tools.dicom.axis.align import SHIFTED, Copy, by_chains, on_one_axis
 from jls_tools.dicom.axis.apart import differing, size_of
-from jls_tools.dicom.axis.bad_places import Range, clipped
+from jls_tools.dicom.axis.bad_places import Range, clipped, outside
 from jls_tools.dicom.axis.inserted import SMALLEST_ELEMENT
 from jls_tools.dicom.axis.placed import placed
 from jls_tools.dicom.axis.runs import FINEST, Runs
@@ -34,7 +34,9 @@ class Layout:
     def __init__(self, copies: Sequence[Copy]) -> None:
         self.copies = copies
         self.put_in: list[tuple[str, int, int]] = []  # (a copy, where in it, how many) of bytes that are no part of the file
-        self.ranges = differing([copy.data for copy in copies])
+        ranges = differing([copy.data for copy in copies])
+        self.exchanged = exchanged.of_one_copy(copies, ranges)
+        self.ranges = sorted([*outside(ranges, self.exchanged), *self.exchanged])
         self.agreed = agreed(copies, self.ranges)
         self.runs, self.structure = self.find()
         self.has_header = self.structure.is_found and self.structure.pixel_data is not None
@@ -48,7 +50,7 @@ class Layout:
         for fineness in (0, 1, 2):
             if fineness == 2 and apart > FINEST:
                 break
-            runs = Runs(self.copies, fineness, self.ranges, self.agreed)
+            runs = Runs(self.copies, fineness, self.ranges, self.agreed, self.exchanged)
             structure = Structure(Walk(runs, [copy.data for copy in self.copies]))
             if best is None or structure.is_found and (not best[1].is_found or rank(structure) < rank(best[1])):
                 best = runs, structure

@@ -14,6 +14,11 @@ def size_of(ranges: Iterable[tuple[int, int]]) -> int:
     return sum(end - begin for begin, end in ranges)
 
 
+def are_exchanged(own: bytes, other: bytes) -> bool:
+    """Whether some bytes are others with those of each pair exchanged, as a wrong order of bytes makes them."""
+    return own != other and len(own) % 2 == 0 and own[::2] == other[1::2] and own[1::2] == other[::2]
+
+
 def differing(texts: Sequence[bytes], begin: int = 0, end: Optional[int] = None) -> list[tuple[int, int]]:
     """The ranges, of one byte or more, in which texts of one length differ. Each byte in them differs."""
     end = len(texts[0]) if end is None else end

@@ -19,7 +19,7 @@ from jls_tools.dicom.axis.periods import period_of
 
 PIECE, KINDS = 16, 8  # bytes by which a run is found, and so many different ones among them
 MOST_PLACES = 4  # of one piece in a text: what stands more often shows nothing
-MOST_FOUND, MOST_RUNS = 8192, 1024  # runs of two texts, and those of which chains are made
+MOST_FOUND, MOST_RUNS = 1 << 16, 1024  # runs of two texts, and those of which chains are made
 LARGEST = 1 << 22  # bytes of a text: a longer one would take much room
 FILLED = re.compile(rb"(.)\1{15,}", re.S)
 

@@ -110,11 +110,20 @@ def run_at(copies: Sequence[Copy], begin: int, end: int, whole: tuple[int, int],
 
 
 class Runs:
-    """All runs of copies on one axis, in order. `fineness` 0 joins near ranges, 1 does not, and 2 makes each byte a run of its own."""
+    """All runs of copies on one axis, in order. `fineness` 0 joins near ranges, 1 does not, and 2 makes each byte a run of its own.
+
+    `exchanged` are sectors in which one copy has the bytes of each pair exchanged.
+    """
 
     def __init__(
-        self, copies: Sequence[Copy], fineness: int, ranges: Optional[list[tuple[int, int]]] = None, agreed: Optional[Agreed] = None
+        self,
+        copies: Sequence[Copy],
+        fineness: int,
+        ranges: Optional[list[tuple[int, int]]] = None,
+        agreed: Optional[Agreed] = None,
+        exchanged: Sequence[tuple[int, int]] = (),
     ) -> None:
+        self.exchanged = exchanged
         ranges = differing([copy.data for copy in copies]) if ranges is None else ranges
         wholes = list(clusters(ranges))
         begins = [begin for begin, _ in wholes]
@@ -140,6 +149,10 @@ class Runs:
         if first < 0 or self.runs[first].end <= begin:
             first += 1
         return range(first, bisect.bisect_left(self.begins, end))
+
+    def has_exchanged(self, begin: int, end: int) -> bool:
+        """Whether a sector of exchanged bytes has a byte in this range."""
+        return any(first < end and begin < last for first, last in self.exchanged)
 
     def ways_of(self, number: int) -> Sequence[int]:
         """The ways of a run that can be true."""

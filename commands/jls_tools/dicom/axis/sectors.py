@@ -10,6 +10,7 @@ import math
 from collections.abc import Iterable, Iterator, Sequence
 from typing import Optional
 
+from jls_tools.dicom.axis.apart import are_exchanged
 from jls_tools.dicom.axis.media import MOST_LOST, SECTOR
 from jls_tools.dicom.axis.periods import period_of
 from jls_tools.dicom.read.elements import Element
@@ -219,9 +220,8 @@ class Pair:
         return kind.bits(other) <= limit + FITS
 
     def are_exchanged(self, begin: int, end: int) -> bool:
-        """Whether a range of one copy is that of the other with the bytes of each pair exchanged, as a wrong order of bytes makes it."""
-        own, other = self.own[begin:end], self.other[begin:end]
-        return begin >= 0 and own != other and len(own) % 2 == 0 and own[::2] == other[1::2] and own[1::2] == other[::2]
+        """Whether a range of one copy is that of the other with the bytes of each pair exchanged."""
+        return begin >= 0 and are_exchanged(self.own[begin:end], self.other[begin:end])
 
     def fits_less(self, begin: int, end: int) -> bool:
         """Whether what a copy has in a range follows the bytes before and after it less than what the other one has there."""

@@ -161,9 +161,18 @@ class Walk:
         swallowing = {
             (long.tag, long.end)
             for short, long in itertools.permutations(leaves.values(), 2)
-            if short.tag == long.tag and short.end < long.end and any(has_swallowed(text, short, long) for text in self.texts)
+            if short.end < long.end and any(has_swallowed(*pair, short, long) for pair in self.owners(short, long))
         }
         return [step for step in steps if step.element is None or (step.element.tag, step.element.end) not in swallowing]
+
+    def owners(self, short: Element, long: Element) -> Iterator[tuple[bytes, Element]]:
+        """The copies, and their element, that show whether a longer value has elements in it.
+
+        Those are copies that have it so, and in a sector of exchanged bytes those that have the shorter one too.
+        """
+        elements = [long] if short.tag == long.tag else []
+        elements += [short] if self.runs.has_exchanged(short.start, long.end) else []
+        yield from itertools.product(self.texts, elements)
 
     def cut(self, state: State, cost: int, chosen: Chosen, element: Optional[Element]) -> None:
         """The file ends inside this header or value."""
@@ -305,10 +314,10 @@ def is_filled(vr: bytes, value: bytes) -> bool:
     return vr in TEXTS and len(value) - len(text) > 1 and allows(vr, text + b"\0" * (len(text) % 2))
 
 
-def has_swallowed(text: bytes, short: Element, long: Element) -> bool:
-    """Whether a copy that has the longer value has elements in it from where the shorter one ends."""
-    own = header_of(text[long.start : long.start + HEAD], long.start)
-    return own is not None and own.tag == long.tag and own.end == long.end and follows_until(text, short.end, long.end, long.tag)
+def has_swallowed(text: bytes, own: Element, short: Element, long: Element) -> bool:
+    """Whether a copy that has one of both elements has others in the longer value from where the shorter one ends."""
+    found = header_of(text[own.start : own.start + HEAD], own.start)
+    return found is not None and found.tag == own.tag and found.end == own.end and follows_until(text, short.end, long.end, own.tag)
 
 
 def follows_until(text: bytes, place: int, until: int, last: int) -> bool:
