@@ -1,7 +1,7 @@
 """Copies that a transfer took for text: it put a carriage return before each line feed. As each has got one, that can be undone.
 
-It is undone in a copy that reads to its end then, and did not before, and in one that has then the length of another one. Codestreams have
-a carriage return before few line feeds by chance: where nearly all of them have one, it is undone too, whatever else the copy lost or got.
+It is undone in a copy that reads to its end then, and did not before, and in one that has then the length of another one. By chance few
+line feeds of codestreams have a carriage return before them. Where nearly all have one it is undone too, whatever the copy lost or got.
 Other transfers take the carriage returns away that stand before line feeds.
 """
 from __future__ import annotations
