@@ -81,7 +81,7 @@ def checks_of_put_in_by_hand(rng: random.Random) -> Iterator[Check]:
         ("in a value that goes on", False, True, False),
         ("in a value that goes on, and ends with an element", False, True, True),
     ):
-        answers = {"is_in_item": is_in_item, "goes_on": goes_on, "can_hide_element": hides, "is_held_alike": True}
+        answers = {"is_in_item": is_in_item, "goes_on": goes_on, "can_hide_element": hides, "is_held_alike": True, "leaves": ()}
         stub: Any = types.SimpleNamespace(**{key: lambda *_, own=own: own for key, own in answers.items()})
         wanted = is_in_item or goes_on and not hides
         yield f"a block {name}: {wanted}", layout.is_put_in(copies, stub, part, [part]) == wanted
