@@ -13,6 +13,7 @@ from charls_coder import Charls, Picture, scan_bytes, segment
 SECTOR = 512
 INTERVALS = ((0, 8), (0, 16), (0, 32), (8, 16), (5, 32), (16, 30))
 KINDS = ("thresholds", "RESET", "interleave", "precision", "three copies")
+OTHER_LAYOUTS = ("by line", "a scan for each")
 DAMAGES = ("zeros", "lost", "inserted", "noise", "flip", "cut")
 LONGEST = {"zeros": 64, "lost": 40, "inserted": 40, "noise": 64, "flip": 1}  # bytes of a place within a row
 
@@ -52,12 +53,26 @@ def recoded(chance: random.Random, kind: str) -> list[Picture]:
     return [plain, *{"thresholds": [thresholds], "RESET": [reset], "three copies": [thresholds, reset]}[kind]]
 
 
+def three_components(chance: random.Random) -> Picture:
+    """A picture of three components in the plain coding."""
+    bits = chance.choice([8, 8, 12, 16])
+    width, rows, samples = some_samples(chance, bits, 3)
+    return Picture((bits, 0, 0, 0, 0, 0), width, rows, 3, samples)
+
+
+def beside_pixels(chance: random.Random, charls: Charls, kind: str) -> tuple[Picture, list[bytes]]:
+    """A picture of three components, its file by sample, and one of another layout. The order of the two is free."""
+    picture = three_components(chance)
+    other = charls.write(picture) if kind == "by line" else charls.write_planes(picture)
+    files = [charls.write_pixels(picture), other]
+    chance.shuffle(files)
+    return picture, files
+
+
 def codings(chance: random.Random, charls: Charls, kind: str) -> tuple[Picture, list[bytes]]:
     """A picture, and its file in two or three codings. The order of the codings is free."""
     if kind == "interleave":
-        bits = chance.choice([8, 8, 12, 16])
-        width, rows, samples = some_samples(chance, bits, 3)
-        plain = Picture((bits, 0, 0, 0, 0, 0), width, rows, 3, samples)
+        plain = three_components(chance)
         files = [charls.write(plain), charls.write_planes(plain)]
     else:
         pictures = recoded(chance, kind)
@@ -126,10 +141,12 @@ def end_of_rows(charls: Charls, picture: Picture, rows: int) -> int:
     return len(whole) - 2 - len(scan_bytes(whole)) + len(scan_bytes(head))
 
 
-def on_rows_that_touch(chance: random.Random, charls: Charls, kind: str) -> tuple[Picture, list[bytes]]:
-    """A picture, and a damaged copy in each of two codings. Each has one place of up to 64 bytes, in rows side by side."""
+def on_rows_that_touch(chance: random.Random, charls: Charls, kind: str) -> tuple[Picture, list[bytes], list[bytes]]:
+    """A picture, its file in each of two codings, and a damaged copy of each. It has one place of up to 64 bytes, in rows side by side."""
     pictures = recoded(chance, kind)
-    plain, row, copies = pictures[0], chance.randint(pictures[0].rows // 6, 5 * pictures[0].rows // 6), []
+    plain, row = pictures[0], chance.randint(pictures[0].rows // 6, 5 * pictures[0].rows // 6)
+    files: list[bytes] = []
+    copies: list[bytes] = []
     chance.shuffle(pictures)
     for place, picture in enumerate(pictures):
         file = charls.write(picture)
@@ -137,5 +154,6 @@ def on_rows_that_touch(chance: random.Random, charls: Charls, kind: str) -> tupl
         length = chance.randint(1, max(1, min(64, end - begin - 4)))
         at = chance.randint(begin, max(begin, end - 2 - length))
         damage = chance.choice(DAMAGES[:-1])
+        files.append(file)
         copies.append(damaged_at(chance, file, at, damage, min(length, LONGEST[damage])))
-    return plain, copies
+    return plain, files, copies

@@ -5,13 +5,15 @@
 
 use crate::interval::Interval;
 use crate::line_ends::LineEnds;
+use crate::pixel_front::pixel_front;
 use jls_bits::BitPlace;
 use jls_copy::next_cut;
-use jls_interval::{CutEnd, FinishedLines, Front, IntervalDecoder, encode_front, fits};
+use jls_interval::{Front, encode_front, fits};
+use jls_piece::{FinishedLines, PieceCutEnd, PieceDecoder};
 use std::alloc::{AllocError, Global};
 
-/// How many more lines fill the byte in which the last line ends: each has one bit at least.
-pub(crate) const LINES_TO_FILL_BYTE: usize = 8;
+/// How many more codes of lines or rows fill the byte in which the last one ends: each has one bit at least.
+pub(crate) const CODES_TO_FILL_BYTE: usize = 8;
 
 /// How many bytes before the last one of a copy have to be those of a code. Then it ends as the code does.
 const BYTES_AT_END: usize = 4;
@@ -165,6 +167,9 @@ pub(crate) fn front_of(
     if !fits(&interval.params, interval.width, interval.components, lines) {
         return Ok(None);
     }
+    if interval.by_sample {
+        return Ok(Some(pixel_front(alloc, interval, lines)?));
+    }
     let front = encode_front(
         alloc,
         &interval.params,
@@ -186,37 +191,36 @@ pub(crate) struct ReadLines {
 /// A decoder that was given the bytes before a place.
 #[derive(Drop)]
 pub(crate) struct Begun {
-    decoder: IntervalDecoder,
+    decoder: PieceDecoder,
     at: usize,
 }
 
-/// How many lines of this width are finished.
-fn count_finished(decoder: &IntervalDecoder, width: u16) -> usize {
-    match decoder.samples_read().checked_div(u64::from(width)) {
+/// How many lines of an interval are finished.
+fn count_finished(decoder: &PieceDecoder, interval: &Interval) -> usize {
+    match decoder
+        .samples_read()
+        .checked_div(u64::from(interval.width))
+    {
         None => 0,
-        Some(count) => usize::try_from(count).unwrap_or(0),
+        Some(count) => interval.coded_lines(usize::try_from(count).unwrap_or(0)),
     }
 }
 
 /// The finished lines, if the bits so far can go on.
-fn finished_lines(decoder: &IntervalDecoder) -> Result<FinishedLines, AllocError> {
+fn finished_lines(decoder: &PieceDecoder) -> Result<FinishedLines, AllocError> {
     match decoder.try_clone()?.finish_cut()? {
-        CutEnd::Whole(lines) => Ok(lines),
-        CutEnd::Head(lines, _) => Ok(lines),
+        PieceCutEnd::Whole(lines) => Ok(lines),
+        PieceCutEnd::Head(lines, _) => Ok(lines),
     }
 }
 
 impl Begun {
     /// One that was given nothing.
     pub(crate) fn new(alloc: Global, interval: &Interval) -> Begun {
-        let decoder = IntervalDecoder::new(
-            alloc,
-            &interval.params,
-            interval.width,
-            interval.components,
-            u32::from(interval.rows),
-        );
-        Begun { decoder, at: 0 }
+        Begun {
+            decoder: PieceDecoder::new(alloc, interval.planned()),
+            at: 0,
+        }
     }
 
     /// Goes on to the end of these bytes, which begin with those that it was given. They have to be those of lines.
@@ -257,25 +261,25 @@ impl Begun {
 
     /// Goes on byte by byte, and answers the most lines that the bytes begin with. Where the last bits can't go on, they are the lines of
     /// fewer bytes.
-    fn last_lines(self, width: u16, bytes: &[u8]) -> Result<ReadLines, AllocError> {
+    fn last_lines(self, interval: &Interval, bytes: &[u8]) -> Result<ReadLines, AllocError> {
         let mut decoder = self.decoder;
         let mut lines = finished_lines(&decoder)?;
         for byte in bytes.iter().skip(self.at) {
-            decoder.push(*byte)?;
+            decoder.push_all(&[*byte])?;
             if decoder.reads_no_more() {
                 return Ok(ReadLines {
                     lines: lines.into_vecs()?,
                     closes: false,
                 });
             }
-            if count_finished(&decoder, width) > lines.len() {
+            if count_finished(&decoder, interval) > lines.len() {
                 let more = finished_lines(&decoder)?;
                 if more.len() > lines.len() {
                     lines = more;
                 }
             }
         }
-        let closes = matches!(decoder.finish_cut()?, CutEnd::Whole(_));
+        let closes = matches!(decoder.finish_cut()?, PieceCutEnd::Whole(_));
         Ok(ReadLines {
             lines: lines.into_vecs()?,
             closes,
@@ -299,7 +303,7 @@ pub(crate) fn read_lines_on(
     for step in STEPS {
         begun = begun.go_on(bytes, step)?;
     }
-    begun.last_lines(interval.width, bytes)
+    begun.last_lines(interval, bytes)
 }
 
 /// The lines of an interval that bytes begin with, up to the first place that can end a piece.

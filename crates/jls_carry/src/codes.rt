@@ -1,7 +1,7 @@
 //! The codes of first lines that were written last. Lines whose code begins one of these are not coded again.
 
 use crate::claims::CopyState;
-use crate::code::{FirstCode, LINES_TO_FILL_BYTE, front_of};
+use crate::code::{CODES_TO_FILL_BYTE, FirstCode, front_of};
 use crate::interval::Interval;
 use crate::picture::Picture;
 use jls_interval::Front;
@@ -30,8 +30,8 @@ pub(crate) struct PieceIndex {
     pub(crate) piece: usize,
 }
 
-/// Writes these readings of the first lines of an interval. Blank lines behind them fill the last byte. `None` comes where they can't be
-/// coded there.
+/// Writes these readings of the first lines of an interval, as far as they have a code. Blank lines behind them fill the last byte. `None`
+/// comes where they can't be coded there.
 fn write(
     alloc: Global,
     picture: &Picture,
@@ -40,10 +40,11 @@ fn write(
 ) -> Result<Option<Front>, AllocError> {
     let blank = vec![in alloc; 0u16; usize::from(interval.width)]?;
     let mut lines: Vec<&[u16]> = Vec::new(alloc);
-    for (line, reading) in readings.iter().enumerate() {
+    let count = interval.coded_lines(readings.len());
+    for (line, reading) in readings.iter().take(count).enumerate() {
         lines.push(picture.samples(interval.place(line), *reading))?;
     }
-    for _ in 0..interval.lines_to_fill(readings.len(), LINES_TO_FILL_BYTE) {
+    for _ in 0..interval.lines_to_fill(count, CODES_TO_FILL_BYTE) {
         lines.push(&blank)?;
     }
     front_of(alloc, interval, &lines)
@@ -58,7 +59,7 @@ pub(crate) fn code_of(
 ) -> Result<Option<FirstCode>, AllocError> {
     match write(alloc, picture, interval, readings)? {
         None => Ok(None),
-        Some(front) => FirstCode::of(alloc, &front, readings.len()),
+        Some(front) => FirstCode::of(alloc, &front, interval.coded_lines(readings.len())),
     }
 }
 
@@ -80,6 +81,7 @@ impl Codes {
     fn known(
         &self,
         index: PieceIndex,
+        interval: &Interval,
         readings: &[usize],
     ) -> Result<Option<FirstCode>, AllocError> {
         let Some(Some(Some(written))) = self
@@ -92,7 +94,8 @@ impl Codes {
         if !written.readings.starts_with(readings) {
             return Ok(None);
         }
-        FirstCode::of(self.alloc, &written.front, readings.len())
+        let count = interval.coded_lines(readings.len());
+        FirstCode::of(self.alloc, &written.front, count)
     }
 
     /// The code of these readings of the first lines of an interval, which a piece holds; `None` where they can't be coded there.
@@ -103,14 +106,14 @@ impl Codes {
         interval: &Interval,
         readings: &[usize],
     ) -> Result<Option<FirstCode>, AllocError> {
-        let known = self.known(index, readings)?;
+        let known = self.known(index, interval, readings)?;
         if known.is_some() {
             return Ok(known);
         }
         let Some(front) = write(self.alloc, picture, interval, readings)? else {
             return Ok(None);
         };
-        let code = FirstCode::of(self.alloc, &front, readings.len())?;
+        let code = FirstCode::of(self.alloc, &front, interval.coded_lines(readings.len()))?;
         let readings = Vec::from_slice(self.alloc, readings)?;
         if let Some(pieces) = self.written.get_mut(index.copy) {
             if let Some(slot) = pieces.get_mut(index.piece) {

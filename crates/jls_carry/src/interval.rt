@@ -4,9 +4,10 @@ ghost use Rattle.std.specs.Prelude.{◌*◌, ◌^◌, ◌≤◌};
 ghost use Rattle.jls_values.specs.Params.{AreCodingParameters};
 
 use jls_marker::ScanPlan;
+use jls_piece::PlannedPiece;
 use jls_values::Params;
 
-/// A restart interval. Its lines stand row by row, and in a row by component (T.87 B.2).
+/// A restart interval. Its lines are in order row by row, and in a row by component (T.87 B.2).
 #[derive(Clone, Copy)]
 pub(crate) struct Interval {
     pub(crate) params: Params,
@@ -22,6 +23,8 @@ pub(crate) struct Interval {
     turns: [u8; 4],
     /// How many components the frame has.
     in_frame: u8,
+    /// Whether the samples of a pixel follow one another, so that all lines of a row have one code.
+    pub(crate) by_sample: bool,
     ghost in_range: { AreCodingParameters params },
     ghost width_at_least: { 1 ≤ width },
     ghost components_at_least: { 1 ≤ components },
@@ -56,7 +59,19 @@ impl Interval {
             first_row,
             turns: turns_of(plan.components()),
             in_frame,
+            by_sample: plan.by_sample(),
         })
+    }
+
+    /// What its pieces are read as.
+    pub(crate) fn planned(&self) -> PlannedPiece {
+        PlannedPiece {
+            params: self.params,
+            width: self.width,
+            components: self.components,
+            rows: u32::from(self.rows),
+            by_sample: self.by_sample,
+        }
     }
 
     /// How many lines it has.
@@ -64,9 +79,23 @@ impl Interval {
         usize::from(self.rows) * usize::from(self.components)
     }
 
-    /// How many lines follow so many, up to whole rows, if at least this many follow.
-    pub(crate) fn lines_to_fill(&self, count: usize, least: usize) -> usize {
+    /// How many of so many first lines have a code of their own: by sample only those of whole rows.
+    pub(crate) fn coded_lines(&self, count: usize) -> usize {
+        if self.by_sample {
+            count.saturating_sub(count % usize::from(self.components))
+        } else {
+            count
+        }
+    }
+
+    /// How many lines follow so many, up to whole rows, if at least this many codes follow: those of lines, or by sample of rows.
+    pub(crate) fn lines_to_fill(&self, count: usize, codes: usize) -> usize {
         let components = usize::from(self.components);
+        let least = if self.by_sample {
+            codes.saturating_mul(components)
+        } else {
+            codes
+        };
         let over = count.saturating_add(least) % components;
         if over == 0 {
             least
@@ -103,9 +132,10 @@ impl Interval {
     }
 
     /// Whether a line of this interval has the same code in the other one, as far as both go. They have to begin with the same row, and to
-    /// have the same components and parameters. The precision has no part in the code.
+    /// have the same components, interleaved alike, and the same parameters. The precision has no part in the code.
     pub(crate) fn is_coded_as(&self, other: &Interval) -> bool {
         self.first_row == other.first_row
+            && self.by_sample == other.by_sample
             && self.components == other.components
             && self.turns == other.turns
             && self.params.maxval() == other.params.maxval()

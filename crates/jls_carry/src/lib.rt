@@ -9,6 +9,7 @@
 //!
 //! - `pieces`, `interval`: where the scan data of each restart interval stand in a copy. Which lines it has
 //! - `code`, `line_ends`: the code of first lines, and where each ends in it. The lines that bytes begin with
+//! - `pixel_front`: the code of first rows by sample
 //! - `codes`: the codes that were written last, which save writing them anew
 //! - `picture`: what copies say of each line, and what is settled
 //! - `claims`: what a copy says by itself, behind what is known
@@ -48,9 +49,9 @@
 //! 9. Pieces that close by themselves count only where nothing else goes on, and in copies that agree with another somewhere. No such piece
 //!    may say otherwise. One that says otherwise of a settled line doesn't count, nor one with a disputed line.
 //! 10. Where nothing at all goes on, up to two rows that one copy says are supposed to be true. Another, which is damaged there, is read on
-//!     behind them at each place near. What it says is taken up to a run of the first copy behind its own damage. A disputed line is settled
-//!     so only if the other copy, by its own reading of it, breaks off before. Nothing is supposed if a copy says a disputed line in a
-//!     piece that closes.
+//!     behind them at each place near. What it says is taken up to a run of the first copy behind its own damage. A disputed line is
+//!     settled so only if the other copy, by its own reading of it, breaks off before. Nothing is supposed if a copy says a disputed line
+//!     in a piece that closes.
 //!
 //! Where two copies have the same code, that code anew says nothing of its truth: garbage, coded anew, is the same garbage. There only what
 //! agrees from the start of an interval on is taken. Nothing else may go on, and no copy of another coding may say otherwise. It gives way
@@ -59,6 +60,9 @@
 //!
 //! Flipped bits can change lines of a copy that reads to its end all the same. If it has another picture than what is settled, the wrong
 //! bytes of all copies are counted by either picture. What is settled is doubtful if it leaves no fewer.
+//!
+//! Copies by sample speak as others do, and whole rows of theirs have one code. They are mended too, but no line of a mended file by sample
+//! is held (`jls_held`), so that it is in the way of a promise. It is left out where copies by line are of several codings.
 //!
 //! A copy agrees with no other if no line is settled, or if it has scan data and no run of its mended file. It is left out of that file.
 #![tactic(auto)]
@@ -79,6 +83,7 @@ mod line_ends;
 mod mending;
 mod picture;
 mod pieces;
+mod pixel_front;
 mod rivals;
 mod rounds;
 mod runs;

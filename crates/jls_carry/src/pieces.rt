@@ -6,7 +6,7 @@
 use crate::interval::Interval;
 use jls_copy::next_cut;
 use jls_marker::codes::{EOI, RST0, RST7, has_segment};
-use jls_marker::{Headers, ScanPlan};
+use jls_marker::{Headers, Profile, ScanPlan};
 use jls_values::Shape;
 use std::alloc::{AllocError, Global};
 
@@ -265,7 +265,7 @@ impl Cutting<'_> {
 pub(crate) fn layout_of(alloc: Global, bytes: &[u8]) -> Result<Option<Layout>, AllocError> {
     let eoi = eoi_of(bytes);
     let data_end = eoi.unwrap_or(bytes.len());
-    let mut headers = Headers::new();
+    let mut headers = Headers::under(Profile::Wide);
     let mut scans = Vec::new(alloc);
     let mut pieces = Vec::new(alloc);
     let mut data = 0usize;
@@ -312,13 +312,14 @@ pub(crate) fn layout_of(alloc: Global, bytes: &[u8]) -> Result<Option<Layout>, A
     }))
 }
 
-/// Whether two scans are of the same components, under the same parameters, with the same restart intervals.
+/// Whether two scans are of the same components, interleaved alike, under the same parameters, with the same restart intervals.
 fn are_same_scans(first: &ScanPlan, second: &ScanPlan) -> bool {
     let count = first.intervals();
     if count == 0 || second.intervals() != count {
         return false;
     }
     *first.components() == *second.components()
+        && first.by_sample() == second.by_sample()
         && first.params() == second.params()
         && first.rows(0) == second.rows(0)
 }

@@ -23,7 +23,7 @@ struct Row {
     reported: &'static str,
 }
 
-const ROWS: [Row; 17] = [
+const ROWS: [Row; 18] = [
     Row {
         file: "eight",
         copies: "100+8=0 / 400+8=0",
@@ -53,6 +53,16 @@ const ROWS: [Row; 17] = [
         numbered: &["narrow"],
         count: 1,
         reported: "coding 1, copies 1",
+    },
+    Row {
+        file: "scans",
+        copies: "60+8=85 / pixels 200+8=85",
+        words: "--files NAME OUT 1 2",
+        prefix: "NAME",
+        status: 1,
+        numbered: &["scans", "pixels"],
+        count: 2,
+        reported: "copy 2 differs 200 8 8",
     },
     Row {
         file: "eight",
