@@ -279,7 +279,12 @@ impl Begun {
                 }
             }
         }
-        let closes = matches!(decoder.finish_cut()?, PieceCutEnd::Whole(_));
+        // By sample the last rows are read where the bytes end.
+        let (lines, closes) = match decoder.finish_cut()? {
+            PieceCutEnd::Whole(all) => (all, true),
+            PieceCutEnd::Head(all, _) if all.len() > lines.len() => (all, false),
+            PieceCutEnd::Head(_, _) => (lines, false),
+        };
         Ok(ReadLines {
             lines: lines.into_vecs()?,
             closes,
