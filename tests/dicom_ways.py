@@ -155,6 +155,7 @@ def checks_of_sectors_of_text(bench: Bench, made: File, rng: random.Random) -> I
     true, fill = with_value(made, lines)[0], (b"BAD-SECTOR \n" * 43)[:512]
     text = b"BAD-SECTOR \n" * 90
     goes_on = changed(true, (2048 - 36, text[: 512 + 36]))
+    anew = changed(true, (2048 - 36, text[:36] + fill + fill + fill))
     flip, other = (true.index(lines[-400:-390]), b"Q"), changed(true, (true.index(made.frames[0]) + 70, bytes(8)))
     both = changed(true, (2048, fill), (1024, fill))
     csa, noise = with_value(made, csa_header(rng))[0], rng.randbytes(512)
@@ -164,6 +165,8 @@ def checks_of_sectors_of_text(bench: Bench, made: File, rng: random.Random) -> I
     for name, wanted, copies, is_back in (
         ("a sector", true, [changed(true, (2048, fill)), other], True),
         ("two sectors", true, [both, other], True),
+        ("two sectors side by side, each with a whole text first", true, [changed(true, (2048, fill * 2)), other], True),
+        ("a text that begins anew in a true sector", anew, [anew, changed(anew, (2560, lines[:512]))], False),
         ("a sector in each", true, [changed(true, (2048, fill)), changed(true, (4096, fill))], True),
         ("a sector in each side by side", true, [changed(true, (2048, fill)), changed(true, (2560, fill))], True),
         ("a sector, and ones beside it in the other copy", true, [changed(true, (2048, fill)), changed(true, (2560, b"\xff" * 512))], True),

@@ -118,9 +118,14 @@ class Pair:
         return None not in sides and ("exact" in sides or sides == ("near", "near"))
 
     def is_one_text(self, begin: int, end: int) -> bool:
-        """Whether a copy has one text again and again from border to border, and neither beyond nor in the other copy."""
+        """Whether a copy has one text again and again from border to border, and neither beyond nor in the other copy.
+
+        It can begin anew in each sector, as a rescue writes them one by one.
+        """
         period = period_of(self.own[begin : begin + SECTOR])
-        if period < 2 or self.own[begin + period : end] != self.own[begin : end - period] or begin == 0 or end == self.total:
+        sectors = {self.own[at : at + SECTOR] for at in range(begin, end, SECTOR)}
+        is_one = len(sectors) == 1 or self.own[begin + period : end] == self.own[begin : end - period]
+        if period < 2 or not is_one or begin == 0 or end == self.total:
             return False
         first, last = max(0, begin - NEAR - 1), min(self.total, end + NEAR + 1)
         is_before = self.own[first:begin] == self.own[first + period : begin + period]
