@@ -128,7 +128,7 @@ def of_stuck_bits(rng: random.Random) -> Iterator[Check]:
         data = bytearray(page)
         for at in (at for lane in lanes for at in range(lane, PAGE, LANE)):
             data[at] |= 16
-        places = stuck.places_stuck(Copy("a", bytes(data)), [Copy("b", page)], 0, PAGE)
+        places = stuck.places_stuck(Copy("a", bytes(data)), [Copy("b", page)], [(0, PAGE)])
         yield f"{len(lanes)} lanes: {wanted}", len({place % LANE for place, _ in places}) == wanted
     for values, bit in (([3, 19, 40, 60], None), (rng.sample(range(256), 64), 16)):  # half of the first have this bit
         own, beside = bytearray(page), bytearray(page)

@@ -3,9 +3,9 @@ from __future__ import annotations
 
 import random
 import struct
-from collections.abc import Iterator, Sequence
+from collections.abc import Callable, Iterator, Sequence
 
-from dicom_files import Bench, File, changed, element, with_value
+from dicom_files import Bench, File, changed, element, frame, with_value
 from dicom_pairs import told
 from dicom_rules import csa_header
 from jls_tools.dicom.axis.align import Copy, on_one_axis
@@ -198,6 +198,10 @@ def checks_of_stuck_bits(bench: Bench, made: File, rng: random.Random) -> Iterat
     yield told(bench, "a bit of a text, and bytes lost before it", [lost[: page - 900] + lost[page - 388 :], changed(true, zeros)], true)
     more = put(changed(true, zeros), page - 900, rng.randbytes(2))
     yield told(bench, "a bit of a text, and bytes put into the other copy before it", [lost, more], true)
+    inside = put(changed(true, zeros), page + 1200, rng.randbytes(2))
+    yield told(bench, "a bit of a text, and bytes put into the other copy in that page", [lost, inside], true)
+    printed = bench.mend([lost, inside])[2]
+    yield f"it is told once ({printed})", printed.count("is stuck in the page at") == 1
     yield told(bench, "a bit of frames, and the other copy's end is lost", [noisy[0], true[:-8]], true)
     part = stuck(true, page, 17, 0x80, True, 1024)
     yield told(bench, "the highest bit in a part of a page of text: it is not that of the other copy", [true, part], true, False)
@@ -229,6 +233,18 @@ def checks_of_runs(bench: Bench, made: File, rng: random.Random) -> Iterator[Che
     cases["losses and bytes put in, of a text that repeats much"] = words, [one, other]
     for name, (wanted, copies) in cases.items():
         yield told(bench, name, copies, wanted)
+
+
+def checks_of_other_sectors(bench: Bench, rng: random.Random) -> Iterator[Check]:
+    """Bytes put into a frame of one of three copies, where a second one has another sector over the header of the frame's item."""
+    big = File([frame(rng, 12, 64, 60, bench.folder)], 12, 64, 60)
+    true, sector = big.bytes, big.items[0] // 512 * 512
+    more, zeros = put(true, sector + 1500, rng.randbytes(8)), changed(true, (sector + 3000, bytes(8)))
+    other = changed(true, (sector, true[sector + 2048 : sector + 2560]))
+    for copies in ([more, other, zeros], [other, zeros, more]):
+        yield told(bench, "bytes put in, and another sector over the header of the item", copies, true)
+    lies = changed(true, (big.items[0] + 4, b"\x10\x20\x00\x00"))
+    yield told(bench, "bytes put in, and another length of the item", [more, lies, zeros], true, False, 1)
 
 
 def checks_of_records(bench: Bench, made: File, rng: random.Random) -> Iterator[Check]:
@@ -263,5 +279,5 @@ def record(rng: random.Random, ways: Sequence[int], mask: int = 0xFF, first: int
     return bytes(byte & mask | bits.get(at, 0) for at, byte in enumerate(rng.randbytes(LANE)))
 
 
-PUT_IN = [checks_of_bytes_put_in, checks_of_zeros_behind, checks_of_put_in_beside_losses, checks_of_least_damage, checks_of_stuck_bits]
-PUT_IN += [checks_of_runs, checks_of_records]
+PUT_IN: list[Callable[..., Iterator[Check]]] = [checks_of_bytes_put_in, checks_of_zeros_behind, checks_of_put_in_beside_losses]
+PUT_IN += [checks_of_least_damage, checks_of_stuck_bits, checks_of_runs, checks_of_records, checks_of_other_sectors]

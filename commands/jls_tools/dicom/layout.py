@@ -2,7 +2,9 @@
 from __future__ import annotations
 
 import itertools
+from collections import Counter
 from collections.abc import Iterator, Sequence
+from operator import ne
 from typing import Optional
 
 from jls_tools.dicom.axis import exchanged, in_filler, inserted
@@ -10,8 +12,9 @@ from jls_tools.dicom.axis.align import SHIFTED, Copy, by_chains, on_one_axis
 from jls_tools.dicom.axis.apart import differing, size_of
 from jls_tools.dicom.axis.bad_places import Range, clipped, outside
 from jls_tools.dicom.axis.inserted import SMALLEST_ELEMENT
+from jls_tools.dicom.axis.media import SECTOR, SHARE
 from jls_tools.dicom.axis.placed import placed
-from jls_tools.dicom.axis.runs import FINEST, Runs
+from jls_tools.dicom.axis.runs import FINEST, Runs, cut_at_sectors
 from jls_tools.dicom.axis.stuck import unstuck
 from jls_tools.dicom.evidence.csa import is_chain
 from jls_tools.dicom.evidence.header import Header
@@ -98,8 +101,12 @@ class Layout:
         return True
 
     def is_alike(self, begin: int, end: int) -> bool:
-        """Whether all copies have the same bytes in a range, but for those that lost them, where two others have them."""
-        well = [copy for copy in self.copies if not clipped(copy.seen, begin, end) and not copy.lacks(begin, end)]
+        """Whether all copies have the same bytes in a range, but for those that lost them or their sector, where two others have them."""
+        return all(self.is_part_alike(*part) for part in cut_at_sectors(begin, end))
+
+    def is_part_alike(self, begin: int, end: int) -> bool:
+        there = [copy for copy in self.copies if not clipped(copy.seen, begin, end) and not copy.lacks(begin, end)]
+        well = [copy for copy in there if not is_another_sector(copy, there, begin // SECTOR * SECTOR)]
         own = well if len(well) > 1 else self.copies
         return len({copy.data[begin:end] for copy in own}) == 1 and not any(copy.lacks(begin, end) for copy in own)
 
@@ -141,6 +148,14 @@ class Layout:
                 table[None] = (self.fragments.table.value, basic)
         header.decide(shape, count, table)
         return header
+
+
+def is_another_sector(copy: Copy, copies: Sequence[Copy], begin: int) -> bool:
+    """Whether nearly all bytes of a copy differ in a sector from those of two other copies, which are equal."""
+    own, end = copy.data[begin : begin + SECTOR], begin + SECTOR
+    others = Counter(other.data[begin:end] for other in copies if other is not copy and not other.lacks(begin, end))
+    models = (model for model, count in others.items() if count > 1)
+    return not copy.lacks(begin, end) and any(sum(map(ne, own, model)) >= SHARE * len(own) for model in models)
 
 
 def is_through(structure: Structure) -> bool:

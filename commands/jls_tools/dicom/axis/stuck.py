@@ -30,47 +30,66 @@ def unstuck(copies: Sequence[Copy], named: Optional[str] = None) -> list[Copy]:
     found = list(copies)
     for number, copy in ((at, copy) for at, copy in enumerate(copies) if copy.path != named):
         others = [other for at, other in enumerate(copies) if at != number]
-        pages: list[tuple[int, int]] = []
+        pages: dict[int, int] = {}
         bits: dict[int, int] = {}
-        for begin, (first, last) in pages_of(copy):
-            places = {place: bit for place, bit in places_stuck(copy, others, first, last) if place not in bits}
+        for begin, ranges in pages_of(copy):
+            places = {place: bit for place, bit in places_stuck(copy, others, ranges) if place not in bits}
             if places:
-                pages.append((begin, len(places)))
+                pages[begin] = pages.get(begin, 0) + len(places)
                 bits.update(places)
         if pages:
             data = bytearray(copy.data)
             for place, bit in bits.items():
                 data[place] ^= bit
-            found[number] = replace(copy, data=bytes(data), stuck=[*copy.stuck, *sorted(pages)])
+            found[number] = replace(copy, data=bytes(data), stuck=[*copy.stuck, *sorted(pages.items())])
     return found
 
 
-def pages_of(copy: Copy) -> Iterator[tuple[int, Range]]:
-    """The pages of a copy, where each begins in it, and where it stands on the axis, as far as no loss is in it.
+def pages_of(copy: Copy) -> Iterator[tuple[int, list[Range]]]:
+    """The pages of a copy: where each begins in it, and its ranges on the axis, several if a loss is in it.
 
-    They are counted from its own beginning, and from that of the file too: it can have lost bytes after a bit was stuck.
+    They are counted from its own beginning, and from that of the file too: it can have lost bytes after a bit was stuck. Then what is
+    before a loss and what is behind it count each by itself.
     """
-    own = len(copy.foreign)
+    pages: dict[int, list[Range]] = {}
+    parts = parts_of(copy)
+    for own, first, last in parts:
+        for begin in range(own - own % PAGE, own + last - first, PAGE):
+            at = first + begin - own
+            pages.setdefault(begin, []).append((max(first, at), min(last, at + PAGE)))
+    yield from pages.items()
+    known = {ranges[0] for ranges in pages.values() if len(ranges) == 1}
+    for own, first, last in parts:
+        for at in range(first - first % PAGE, last, PAGE):
+            part = max(first, at), min(last, at + PAGE)
+            if part not in known:
+                yield own + part[0] - first, [part]
+
+
+def parts_of(copy: Copy) -> list[tuple[int, int, int]]:
+    """What a copy has between its losses: (where it begins in the copy, where it begins and ends on the axis)."""
     borders = [0, *(place for pair in copy.absent for place in pair), len(copy.data)]
+    own, found = len(copy.foreign), []
     for first, last in zip(borders[::2], borders[1::2]):
-        begins = [first + begin - own for begin in range(-(-own // PAGE) * PAGE, own + last - first, PAGE)]
-        for at in dict.fromkeys([*begins, *range(-(-first // PAGE) * PAGE, last, PAGE)]):
-            yield own + at - first, (at, min(at + PAGE, last))
+        found.append((own, first, last))
         own += last - first
+    return found
 
 
-def places_stuck(copy: Copy, others: Sequence[Copy], first: int, last: int) -> list[tuple[int, int]]:
+def places_stuck(copy: Copy, others: Sequence[Copy], ranges: Sequence[Range]) -> list[tuple[int, int]]:
     """[(place, bit)] of the bytes of a page that a stuck bit has changed, as another copy shows and no third one denies."""
     for other in others:
-        until = min([last, *(begin for begin, end in other.absent if first < end and begin < last)])
-        if until <= first or other.data[first:until] == copy.data[first:until]:
+        until = min((begin for begin, end in other.absent if ranges[0][0] < end and begin < ranges[-1][1]), default=ranges[-1][1])
+        parts = [(first, min(last, until)) for first, last in ranges if first < until]
+        own, model = (b"".join(each.data[first:last] for first, last in parts) for each in (copy, other))
+        if own == model:
             continue
-        own, model = copy.data[first:until], other.data[first:until]
-        bits = {lane: bit_of(own, model, lane - first) for lane in range(first, min(first + LANE, until))}
+        bits = {lane: bit_of(own, model, lane) for lane in range(min(LANE, len(own)))}
         lanes = [(lane, bit) for lane, bit in bits.items() if bit is not None]
-        found = [(at, bit) for lane, bit in lanes for at in range(lane, until, LANE) if other.data[at] == copy.data[at] ^ bit]
+        places = [at for part in parts for at in range(*part)]
+        found = [(places[at], bit) for lane, bit in lanes for at in range(lane, len(own), LANE) if model[at] == own[at] ^ bit]
         is_denied = any(third.data[at] == copy.data[at] and not third.lacks(at, at + 1) for at, _ in found for third in others)
-        if 0 < len(lanes) <= MOST_LANES and not is_denied and not has_records(copy.data, other.data, (first, until), lanes):
+        if 0 < len(lanes) <= MOST_LANES and not is_denied and not has_records(copy.data, own, model, parts, lanes):
             return found
     return []
 
@@ -111,13 +130,14 @@ def is_stretch(own: bytes, beside: bytes, bit: int) -> bool:
     return count < len(apart) and all(apart[begin : begin + count])
 
 
-def has_records(data: bytes, model: bytes, page: Range, lanes: Sequence[tuple[int, int]]) -> bool:
+def has_records(data: bytes, own: bytes, model: bytes, parts: Sequence[Range], lanes: Sequence[tuple[int, int]]) -> bool:
     """Whether a bit has one value in lanes of the file itself: in another lane of the page, or in these in the page before or after."""
-    first, last = page
-    others = (lane for lane in range(first, min(first + LANE, last)) if data[lane:last:LANE] == model[lane:last:LANE])
-    if any(oddness(data[first:last], lane - first, 1 << bit) >= MARGIN for lane in others for bit in range(8)):
+    others = (lane for lane in range(min(LANE, len(own))) if own[lane::LANE] == model[lane::LANE])
+    if any(oddness(own, lane, 1 << bit) >= MARGIN for lane in others for bit in range(8)):
         return True
-    for begin, end in ((max(0, first - PAGE), first), (last, last + PAGE)):
-        if any(oddness(data[begin:end], (lane - begin) % LANE, bit) >= MARGIN for lane, bit in lanes):
+    first, last = parts[0][0], parts[-1][1]
+    begin = max(0, first - PAGE)
+    for page, shift in ((data[begin:first], first - begin), (data[last : last + PAGE], -len(own))):
+        if any(oddness(page, (lane + shift) % LANE, bit) >= MARGIN for lane, bit in lanes):
             return True
     return False
