@@ -16,6 +16,11 @@ def lines_of(count: int, more: bytes = b"") -> bytes:
     return b"".join(b"asSlice[%03d].sNormal.dTra = 0.99986%s ;\n" % (at * 37 % 1000, more) for at in range(count))
 
 
+def hurt_in(data: bytes, made: File, number: int) -> bytes:
+    """A copy with damage in a frame."""
+    return changed(data, (data.index(made.frames[number]) + 70, b"\x5a" * 8))
+
+
 def checks_of_bytes_elsewhere(bench: Bench, made: File) -> Iterator[Check]:
     """A byte is decided where another one never stands with the bytes around it; digits, and what fills a gap, stand so more often."""
     for name, count, old, new, is_back in (
@@ -35,6 +40,10 @@ def checks_of_bytes_elsewhere(bench: Bench, made: File) -> Iterator[Check]:
     at = true.index(b"Normal", begin + 700)
     near = [changed(true, (at + 2, b"s")), changed(true, (true.index(b"Normal", at + 6) + 2, b"s"))]
     yield told(bench, "another byte of the sector differs too (elsewhere)", near, true, False, 1)
+    three = [changed(true, (at + 2, b"s")), hurt_in(true, made, 0), changed(true, (at // 512 * 512, (b"BAD-SECTOR " * 50)[:512]))]
+    yield told(bench, "a letter, and a text over its sector in a third copy (elsewhere)", three, true)
+    three[2] = changed(true, (at + 5, b"t"))
+    yield told(bench, "a letter, and another one of its sector in a third copy (elsewhere)", three, true)
     values = [element(0x200011 + at, "LO", "sNormal.dTra") for at in range(8)]
     data = put_before(made.bytes, 0x280002, *[element(0x190010, "LO", "MINE"), element(0x191010, "UT", "")][:1], *values)
     hurt = changed(data, (data.index(made.frames[0]) + 70, bytes(8)))
@@ -99,8 +108,29 @@ def checks_of_misplaced_sectors(bench: Bench, made: File, rng: random.Random) ->
             yield told(bench, f"a sector of another place{name} (misplaced)", copies, true, is_back, None if is_back else 1)
 
 
+def checks_of_joints(bench: Bench, made: File, rng: random.Random) -> Iterator[Check]:
+    """Two sectors that changed their places: the text goes on over their borders in the other copy. Numbers, and noise, say nothing."""
+    lines = b"".join(b"asCoilSelectMeas[%d].asList[%d].lRxChannel = %d\n" % (at % 3, at, at % 4) for at in range(120))
+    lines += b"".join(b"sGroupArray.anMember[%d].flFactor%d = %d\n" % (at, at % 2, at * 7919 % 1000) for at in range(120))
+    true, begin = with_value(made, lines)
+    one, two = -(-begin // 512) * 512 + 1024, -(-begin // 512) * 512 + 6144
+    first, second = true[one : one + 512], true[two : two + 512]
+    for name, other, moved, is_back in (
+        ("two sectors", hurt_in(true, made, 0), changed(true, (one, second), (two, first)), True),
+        ("two sectors, and one of them is noise", hurt_in(true, made, 0), changed(true, (one, second), (two, rng.randbytes(512))), True),
+        ("two sectors, and damage before one", changed(true, (one - 20, b"Zz")), changed(true, (one, second), (two, first)), False),
+    ):
+        for copies in ([moved, other], [other, moved]):
+            yield told(bench, f"{name} (joints)", copies, true, is_back, None if is_back else 1)
+    digits = b"".join(b"%03d." % (at * 7919 % 1000) for at in range(2000))
+    true, begin = with_value(made, digits)
+    swapped = changed(true, (one, true[two : two + 512]), (two, true[one : one + 512]))
+    yield told(bench, "two sectors of numbers (joints)", [swapped, hurt_in(true, made, 0)], true, False, 1)
+
+
 def checks_of_bits_in_zeros(bench: Bench, made: File, rng: random.Random) -> Iterator[Check]:
-    """A bit alone in a long run of zeros is a flip, unless the other copy has zeros that were written somewhere."""
+    """A bit alone in a long run of zeros is a flip where a copy has others, unless the other copy has zeros that were written somewhere."""
+    flip = 129, b"H"
     for name, size, value, is_back in (
         ("a bit", 3000, b"\x10", True),
         ("a bit in fewer zeros", 900, b"\x10", False),
@@ -108,15 +138,23 @@ def checks_of_bits_in_zeros(bench: Bench, made: File, rng: random.Random) -> Ite
     ):
         true, begin = with_value(made, rng.randbytes(64) + bytes(size) + rng.randbytes(64))
         hurt = changed(true, (true.index(made.frames[0]) + 70, b"\x5a" * 8))
-        odd = changed(true, (begin + 400, value))
+        odd = changed(true, flip, (begin + 400, value))
         for copies in ([odd, hurt], [hurt, odd]):
             yield told(bench, f"{name} (in zeros)", copies, true, is_back, None if is_back else 1)
     true, begin = with_value(made, rng.randbytes(64) + bytes(3000) + rng.randbytes(64))
-    odd, hurt = changed(true, (begin + 400, b"\x10")), changed(true, (true.index(made.frames[0]) + 70, bytes(8)))
+    lone, table = changed(true, (begin + 400, b"\x10")), hurt_in(true, made, 0)
+    yield told(bench, "a bit of a copy that has no other flip (in zeros)", [lone, table], true, False, 1)
+    yield told(bench, "a bit, and a flip of the other copy (in zeros)", [lone, changed(table, flip)], true, False, 1)
+    odd, hurt = changed(true, flip, (begin + 400, b"\x10")), changed(true, (true.index(made.frames[0]) + 70, bytes(8)))
     yield told(bench, "a bit, and zeros in a frame of the other copy (in zeros)", [odd, hurt], true, False, 1)
     near = changed(odd, (begin + 420, b"\x01"))
     yield told(bench, "two bits in a sector (in zeros)", [near, changed(hurt, (hurt.index(made.frames[1]) + 60, b"ab"))], true, False, 1)
-    edge = [changed(true, (begin + 80, b"\x10")), changed(true, (true.index(made.frames[0]) + 70, b"\x5a"))]
+    true, begin = with_value(made, rng.randbytes(64) + bytes(1900) + rng.randbytes(64))
+    bits = [changed(true, flip, *((begin + 64 + at, b"\x10") for at in (300, 900, 1500))), hurt_in(true, made, 0)]
+    for copies in (bits, bits[::-1]):
+        yield told(bench, "three bits, of which none has zeros enough around it (in zeros)", copies, true, False, 1)
+    true, begin = with_value(made, rng.randbytes(64) + bytes(3000) + rng.randbytes(64))
+    edge = [changed(true, flip, (begin + 80, b"\x10")), changed(true, (true.index(made.frames[0]) + 70, b"\x5a"))]
     yield told(bench, "a bit where the zeros begin (in zeros)", edge, true, False, 1)
 
 
@@ -135,3 +173,4 @@ def checks_of_version_names(bench: Bench, made: File) -> Iterator[Check]:
 
 
 ELSEWHERE = [checks_of_version_names, checks_of_bits_in_zeros, checks_of_bytes_elsewhere, checks_of_seven_bits, checks_of_misplaced_sectors]
+ELSEWHERE += [checks_of_joints]

@@ -333,6 +333,19 @@ def checks_of_most(bench: Bench, made: File) -> Iterator[Check]:
     apart = [changed(true, (made.items[1] + 70, bytes(8))), changed(true, (made.items[2] + 70, bytes(8)))]
     twice = changed(true, *((first + 60 + at, bytes([true[first + 60 + at] ^ 4])) for at in (0, 9)))
     yield case(bench, "two copies with damage of their own, and one with two flipped bits", [apart[0], twice, apart[1]], 0, true)
+    second, third = made.items[1] + 60, made.items[2] + 60
+    lost, more = true[:second] + true[second + 16 :], true[:third] + bytes(range(1, 6)) + true[third:]
+    for name, copies in (("lost bytes", [true, lost]), ("got bytes", [more, true]), ("lost some, and one that got some", [lost, more])):
+        yield case(bench, f"one that {name} beside one with two flipped bits", [copies[0], twice, copies[1]], 0, true)
+    cut = [twice, twice[:-20], apart[0]]
+    yield case(bench, "two copies of one damaged copy, of which one is cut", cut, 1, b"", "disputed")
+    source = changed(true, (true.index(b"UI", 180), b"TI"), (made.name_at, b"E"))
+    one_source = [source, changed(source, (made.items[1] + 70, bytes(8))), changed(true, (made.items[2] + 70, bytes(8)))]
+    for copies in (one_source, one_source[::-1]):
+        yield case(bench, "two copies that have the same wrong VR, and another letter of a name", copies, 1, b"", "undecided")
+    both = [changed(twice, (true.index(b"UI", 180), b"TI")), changed(true, (made.items[1] + 70, bytes(8)))]
+    both += [changed(both[0], (made.items[2] + 70, bytes(8)))]
+    yield case(bench, "two copies that have the same wrong VR, and two flipped bits", both, 1, b"", "disputed")
     yield case(bench, "a letter of a name in one of three", [true, named, true], 0, true, "most copies have it")
     date, inner = element(0x80020, "DA", "20200131"), element(0x81040, "LO", "WARD") + element(0x81090, "LO", "ACME")
     pairs = (("", inner), ("A" * len(inner), b""))

@@ -9,6 +9,7 @@ from jls_tools.dicom.axis.bad_places import Range, clipped, in_all, marked, note
 from jls_tools.dicom.axis.placed import in_no_copy
 from jls_tools.dicom.copies.given import Given
 from jls_tools.dicom.evidence.alone import Stranger
+from jls_tools.dicom.evidence.sources import sources_of
 from jls_tools.dicom.evidence.witnessed import resting, why_denied
 from jls_tools.dicom.layout import is_through, laid_out
 from jls_tools.dicom.read.elements import DELIMITER
@@ -34,6 +35,7 @@ class MendedFrames:
         self.copies, self.layout = laid_out([given.copy_at(at) for at in chosen], given.options.header)
         named = enumerate(zip(given.paths, given.texts))
         self.strange = [Stranger(path, text, at in given.instances.uncertain) for at, (path, text) in named if at not in chosen]
+        self.sources = sources_of(self.copies, self.layout.runs, self.layout.structure.ways)
         self.own = [self.own_streams(place, [copy.data for copy in self.copies]) for place in self.layout.places]
         filled = self.own
         self.kept: dict[int, list[bytes]] = {}
@@ -169,7 +171,7 @@ class MendedFrames:
         if place is None or any(copy.lacks(place.begin, place.end) for copy in self.copies if not copy.recoded):
             return None
         own = self.own[number]
-        stream = equal_in_most(own, self.copies) or most_of(list(own.values()))
+        stream = equal_in_most(own, self.copies, self.layout.put_in, self.sources) or most_of(list(own.values()))
         mended = self.mender.mend(number, [stream], begin) if stream is not None else None
         return mended if mended and mended.is_whole else None
 

@@ -43,11 +43,13 @@ def singles_of(header: Header, leaf: Element) -> list[int]:
 
 
 def is_single(header: Header, number: int) -> bool:
-    """Whether a run is one byte, and the only one in its sector in which copies differ."""
+    """Whether a run is one byte, and the only one in its sector in which the copies differ that have the ways which are left."""
     run = header.runs.runs[number]
     sector = run.begin // SECTOR * SECTOR
-    is_there = not any(copy.lacks(sector, sector + SECTOR) for copy in header.copies)
-    return run.end - run.begin == 1 and len(header.runs.touching(sector, sector + SECTOR)) == 1 and is_there
+    own = [header.copies[copy] for way in header.left[number] for copy in run.holders[way]]
+    is_there = not any(copy.lacks(sector, sector + SECTOR) for copy in own)
+    texts = {copy.data[sector : run.begin] + copy.data[run.end : sector + SECTOR] for copy in own}
+    return run.end - run.begin == 1 and len(texts) == 1 and is_there
 
 
 def way_elsewhere(header: Header, leaf: Element, number: int, data: bytes, known: bytes) -> Optional[int]:

@@ -13,6 +13,7 @@ from jls_tools.dicom.evidence.csa import Chains
 from jls_tools.dicom.evidence.decider import Decider
 from jls_tools.dicom.evidence.elsewhere import by_elsewhere
 from jls_tools.dicom.evidence.in_zeros import by_zeros_around
+from jls_tools.dicom.evidence.joints import by_joints
 from jls_tools.dicom.evidence.meta import NO_MEANING, by_meta, by_preamble, by_prefix, by_version_name
 from jls_tools.dicom.evidence.misplaced import by_place
 from jls_tools.dicom.evidence.most import BY_MOST
@@ -146,6 +147,7 @@ class Header:
         self.keep_values(PADDING, lambda value: not value.strip(b"\0"), IS_PADDING)
         Decider(self).decide()
         Chains(self).decide()  # with the sectors that were decided its items can go on
+        by_joints(self)
         by_place(self)
         by_seven_bits(self)
         by_elsewhere(self)
@@ -180,9 +182,13 @@ class Header:
     def alike(self, number: int, way: int) -> list[int]:
         """The ways of a run that have the same bytes outside of frames as one: only these are the header's."""
         run, parts = self.runs.runs[number], self.parts[number]
-        if parts == [(run.begin, run.end)]:
+        if self.is_outside(number):
             return [way]
         return [other for other in range(len(run.ways)) if all(run.part(other, *part) == run.part(way, *part) for part in parts)]
+
+    def is_outside(self, number: int) -> bool:
+        """Whether all of a run is outside of frames."""
+        return self.parts[number] == [(self.runs.runs[number].begin, self.runs.runs[number].end)]
 
     def holders_of(self, number: int, way: int) -> set[int]:
         """The copies that have what a way has outside of frames."""

@@ -26,7 +26,7 @@ def by_place(header: Header) -> None:
         data = bytes(header.merged())
         for border in sorted({header.runs.runs[number].begin // SECTOR * SECTOR for number in header.open_runs()})[:MOST_LOOKS]:
             if stands_elsewhere(header, own, border, data) and looks_well(header, other, border, data):
-                drop(header, own, border)
+                drop(header, own, border, MISPLACED)
 
 
 def stands_elsewhere(header: Header, copy: int, border: int, data: bytes) -> bool:
@@ -44,10 +44,10 @@ def looks_well(header: Header, copy: int, border: int, data: bytes) -> bool:
     return is_there and not period_of(sector) and not is_noise(sector) and not stands_elsewhere(header, copy, border, data)
 
 
-def drop(header: Header, own: int, border: int) -> None:
+def drop(header: Header, own: int, border: int, why: str) -> None:
     numbers = [number for number in header.runs.touching(border, border + SECTOR) if number in header.left]
     if any(len(header.left[number]) == 1 and own in header.holders(number) for number in numbers):
         return
     for number in numbers:
         run = header.runs.runs[number]
-        header.keep(number, {way for way in header.left[number] if set(run.holders[way]) - {own}}, MISPLACED)
+        header.keep(number, {way for way in header.left[number] if set(run.holders[way]) - {own}}, why)

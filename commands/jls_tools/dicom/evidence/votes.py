@@ -4,7 +4,7 @@ from __future__ import annotations
 import bisect
 import itertools
 import re
-from collections.abc import Collection, Mapping
+from collections.abc import Collection, Mapping, Sequence
 from typing import TYPE_CHECKING, Optional
 
 from jls_tools.dicom.axis.bad_places import clipped
@@ -12,6 +12,7 @@ from jls_tools.dicom.axis.media import SECTOR, SECTORS
 from jls_tools.dicom.axis.sectors import is_noise_alone
 from jls_tools.dicom.evidence.decider import DECIDED, IS_SECTOR
 from jls_tools.dicom.evidence.most import BY_MOST, are_lost_alike, has_other
+from jls_tools.dicom.evidence.sources import sources_of
 from jls_tools.dicom.evidence.uids import is_flip, of_series
 from jls_tools.dicom.read.elements import text_of
 from jls_tools.dicom.read.tags import INSTANCE, INSTANCE_IN_META
@@ -58,7 +59,10 @@ def by_most(header: Header) -> None:
 
     A copy with another file's UID says nothing of numbers, which files of a series have otherwise. Nor does one that has another number
     near by, where no flipped bit explains what differs: two copies can have sectors of one other file. What looks lost makes no majority.
+    Copies of one damaged file have one voice.
     """
+    whole = {number: ways for number, ways in header.left.items() if header.is_outside(number)}
+    sources = sources_of(header.copies, header.runs, whole)
     strange, others = with_other_uid(header), with_other_numbers(header)
     for number in header.open_runs():
         run = header.runs.runs[number]
@@ -66,7 +70,7 @@ def by_most(header: Header) -> None:
         if has_other_number(header, number):
             silent = silent | others.get(run.begin // SECTORS[0], set())
         holders = {way: header.holders_of(number, way) - silent for way in header.left[number]}
-        most = of_most(header, number, holders)
+        most = of_most(header, number, holders, sources)
         if most is None:
             continue
         count = decided_against(header, number, holders[most])
@@ -74,14 +78,15 @@ def by_most(header: Header) -> None:
             header.keep(number, set(header.left[number]) - set(header.alike(number, most)), IS_SECTOR)
         elif count == 0:
             lost = lost_in(header, number)
-            if of_most(header, number, {way: each - lost for way, each in holders.items()}) == most:
+            if of_most(header, number, {way: each - lost for way, each in holders.items()}, sources) == most:
                 header.keep(number, {most}, BY_MOST)
 
 
-def of_most(header: Header, number: int, holders: Mapping[int, Collection[int]]) -> Optional[int]:
-    """The way that most of three copies or more have, {a way that is left: the copies that count for it}."""
-    present = sum(len(each) for each in header.runs.runs[number].holders)
-    return next((way for way in header.left[number] if present >= 3 and len(holders[way]) * 2 > present), None)
+def of_most(header: Header, number: int, holders: Mapping[int, Collection[int]], sources: Sequence[int]) -> Optional[int]:
+    """The way that most of three voices or more have, {a way that is left: the copies that count for it}; `sources` has that of each."""
+    present = len({sources[copy] for each in header.runs.runs[number].holders for copy in each})
+    voices = {way: len({sources[copy] for copy in each}) for way, each in holders.items()}
+    return next((way for way in header.left[number] if present >= 3 and voices[way] * 2 > present), None)
 
 
 def lost_in(header: Header, number: int) -> set[int]:
@@ -107,7 +112,7 @@ def with_other_numbers(header: Header) -> dict[int, set[int]]:
     """{a block of the largest size: the copies that have another number in it than most have}."""
     found: dict[int, set[int]] = {}
     for number in header.open_runs():
-        most = of_most(header, number, {way: header.holders_of(number, way) for way in header.left[number]})
+        most = of_most(header, number, {way: header.holders_of(number, way) for way in header.left[number]}, range(len(header.copies)))
         if most is not None and has_other_number(header, number):
             others = (header.holders_of(number, way) for way in header.left[number] if way != most)
             found.setdefault(header.runs.runs[number].begin // SECTORS[0], set()).update(*others)

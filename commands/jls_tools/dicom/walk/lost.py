@@ -124,6 +124,11 @@ class Lost:
         return list(dict.fromkeys(kept))
 
 
+def inner_losses(copy: Copy) -> list[tuple[int, int]]:
+    """What a copy lost ahead of its end: a file that is copied can be cut there."""
+    return [pair for pair in copy.lost if pair[1] < len(copy.data)]
+
+
 def most_of(streams: Sequence[bytes]) -> Optional[bytes]:
     """What most of three streams or more have at each place, if all differ: two that are equal can be copies of one damaged file."""
     if len(streams) < 3 or len(set(streams)) < len(streams) or len(set(map(len, streams))) > 1:
@@ -138,17 +143,24 @@ def most_of(streams: Sequence[bytes]) -> Optional[bytes]:
     return bytes(found)
 
 
-def equal_in_most(own: Mapping[int, bytes], copies: Sequence[Copy]) -> Optional[bytes]:
+def equal_in_most(
+    own: Mapping[int, bytes], copies: Sequence[Copy], put_in: Sequence[tuple[str, int, int]], sources: Sequence[int]
+) -> Optional[bytes]:
     """The stream of a frame that most copies have, {copy: its stream}; nothing if these can be copies of one damaged file.
 
-    They are none where they differ elsewhere. Of equal files the others have to differ in one place alone: else each can have damage.
+    They are none where they differ elsewhere, lost other bytes ahead of their end, or got others: `put_in` has the paths of which these
+    were cut out. Of equal files the others have to differ in one place alone: else each can have damage. `sources` says of which file each
+    copy is, as far as its damage shows that.
     """
     stream, count = Counter(own.values()).most_common(1)[0] if own else (b"", 0)
-    holders = [copies[copy].data for copy in own if own[copy] == stream]
+    equal = [copies[copy] for copy in own if own[copy] == stream]
+    holders = [(copy.data, inner_losses(copy), [part for path, *part in put_in if path == copy.path]) for copy in equal]
+    if len({sources[copy] for copy in own if own[copy] == stream}) < 2:
+        return None
     if count < 2 or count * 2 <= len(own) or count == len(own):
         return None
     others = [each for each in own.values() if each != stream]
     if any(len(each) != len(stream) for each in others):
         return None
-    are_apart = any(data != holders[0] for data in holders[1:])
+    are_apart = any(other != holders[0] for other in holders[1:])
     return stream if are_apart or all(len(differing([stream, each])) == 1 for each in others) else None
