@@ -10,7 +10,8 @@ from typing import Any
 from dicom_files import File, changed
 from jls_tools.dicom import layout
 from jls_tools.dicom.axis import bad_places, inserted, stuck
-from jls_tools.dicom.axis.align import Copy, meet_again, pieces
+from jls_tools.dicom.axis.align import Copy
+from jls_tools.dicom.axis.pieces import meet_again, pieces
 from jls_tools.dicom.axis.sectors import Pair
 from jls_tools.dicom.copies.instance import Instances
 from jls_tools.dicom.evidence.witnessed import denied, is_same, why_odd

@@ -12,7 +12,7 @@ from dicom_pairs import told
 from dicom_rules import csa_header
 from dicom_rules import put_before as put
 from dicom_truth import case
-from jls_tools.dicom.axis.align import meet_again
+from jls_tools.dicom.axis.pieces import meet_again
 from jls_tools.dicom.axis.leads import leads
 from jls_tools.dicom.copies.instance import shares_pieces
 from jls_tools.dicom.copies.witness import Witness

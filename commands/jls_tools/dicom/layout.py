@@ -8,11 +8,12 @@ from operator import ne
 from typing import Optional
 
 from jls_tools.dicom.axis import exchanged, in_filler, inserted
-from jls_tools.dicom.axis.align import SHIFTED, Copy, by_chains, on_one_axis
+from jls_tools.dicom.axis.align import Copy, by_chains, on_one_axis
 from jls_tools.dicom.axis.apart import differing, size_of
 from jls_tools.dicom.axis.bad_places import Range, clipped, outside
 from jls_tools.dicom.axis.inserted import SMALLEST_ELEMENT
 from jls_tools.dicom.axis.media import SECTOR, SHARE
+from jls_tools.dicom.axis.pieces import SHIFTED
 from jls_tools.dicom.axis.placed import placed
 from jls_tools.dicom.axis.runs import FINEST, Runs, cut_at_sectors
 from jls_tools.dicom.axis.stuck import unstuck

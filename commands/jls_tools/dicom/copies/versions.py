@@ -10,7 +10,7 @@ from collections.abc import Sequence
 from dataclasses import dataclass, field
 from typing import Optional
 
-from jls_tools.dicom.axis.align import ANCHOR, equal_length
+from jls_tools.dicom.axis.pieces import ANCHOR, equal_length
 from jls_tools.dicom.evidence.most import header_end
 from jls_tools.dicom.read.elements import DELIMITER, PIXELS_BEGIN, UNDEFINED, has_prefix, tag_name
 from jls_tools.dicom.read.reading import Reading
