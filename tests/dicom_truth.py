@@ -1,17 +1,15 @@
-"""Checks that nothing false comes with status 0, and that no copy blocks the others: chimeras, the finished file, tails, most copies.
+"""Checks that nothing false comes with status 0, and that no copy blocks the others: chimeras, the finished file, most copies.
 
 Each case says what the status has to be and what OUT; "" stands for no OUT. `words` is what has to be printed.
 """
 from __future__ import annotations
 
-import hashlib
 import random
 import struct
 from collections.abc import Iterator, Sequence
 
-from dicom_files import CLASS, UID, Bench, File, changed, element, frame
+from dicom_files import CLASS, UID, Bench, File, changed, element, frame, with_value
 from dicom_rules import put_before
-from jls_tools.dicom.axis.tails import without_tails
 from jls_tools.dicom.write.finished import faults_of
 from jls_tools.programs import Programs
 
@@ -19,7 +17,6 @@ Check = tuple[str, bool]
 NEIGHBOUR = UID[:-1] + "8"
 END = b"\xfe\xff\xdd\xe0\0\0\0\0"
 EXPLICIT = "1.2.840.10008.1.2.1"
-SECTOR = 512
 
 
 def case(
@@ -179,132 +176,6 @@ def checks_of_cuts(bench: Bench, made: File) -> Iterator[Check]:
     yield case(bench, "cut in one copy", [made.bytes[: end + 4], damaged(made)], 0, made.bytes)
 
 
-# Tails ---------------------------------------------------------------------------------------------
-
-
-def checks_of_tails(bench: Bench, made: File, neighbour: File) -> Iterator[Check]:
-    """Bytes behind the last element are cut where a whole copy lacks them or most do. In all copies they stay."""
-    true, zeros, noise = made.bytes, bytes(-len(made.bytes) % 4096), random.Random(4).randbytes(300)
-    flipped = changed(true, (made.name_at, b"E"))
-    for name, copies in {
-        "zeros to a border behind one": [true, true + zeros],
-        "zeros behind a damaged one": [true, damaged(made) + zeros],
-        "zeros behind a whole one": [damaged(made), true + zeros],
-        "noise": [true, true + noise],
-        "the rest of another file": [true + neighbour.bytes[len(true) // 2 :], damaged(made)],
-        "zeros behind two of three": [true + zeros, true + zeros + bytes(4096), true],
-        "zeros behind one of three": [damaged(made), damaged(made, 1), true + noise],
-        "zeros behind one without a header of an item": [true, changed(true, (made.items[1], bytes(8))) + zeros],
-        "a header of an item is gone in each": [changed(true, (made.items[2], bytes(8))), changed(true, (made.items[1], bytes(8))) + zeros],
-    }.items():
-        yield case(bench, f"a tail: {name}", copies, 0, true, "they were cut from")
-    both = [true + zeros, damaged(made) + zeros]
-    yield case(bench, "a tail in each copy", both, 0, true + zeros, "every copy has them")
-    yield case(bench, "the same, and a sum without it", both, 0, true, "matched", ["--sha256", hashlib.sha256(true).hexdigest()])
-    both = [true + noise, damaged(made) + noise]
-    yield case(bench, "a tail of noise in each copy", both, 1, b"", "of every copy, and are no padding")
-    yield case(bench, "a tail of noise in each copy, and --header", both, 0, true + noise, "every copy has them", ("--header", "COPY0"))
-    sums = ["--sha256", hashlib.sha256(true + noise).hexdigest()]
-    yield case(bench, "a tail that one copy lacks, and a sum with it", [true, damaged(made) + noise], 0, true + noise, "matched", sums)
-    alone = [true[: len(true) // 2], true + noise]
-    yield case(bench, "a tail, and the other copy is cut", alone, 1, b"", "what stands after the last element")
-    sums = ["--sha256", hashlib.sha256(true).hexdigest()]
-    yield case(bench, "the same, and a sum without it", alone, 0, true, "matched", sums)
-    yield case(bench, "two tails that differ", [true + zeros, true + noise], 1, b"", "what stands after the last element")
-    rests = [random.Random(seed).randbytes(-len(true) % 4096) for seed in (5, 6)]
-    for order in (rests, rests[::-1]):
-        yield case(bench, "rests of other files up to a border", [true + order[0], damaged(made) + order[1]], 0, true, "they were cut from")
-    both = [true + rests[0], damaged(made) + rests[1][:-2]]
-    yield case(bench, "rests of other files, of which one ends at no border", both, 1, b"", "what stands after the last element")
-    ended = [true + rests[0], damaged(made) + neighbour.bytes[-300:]]
-    for order in (ended, ended[::-1]):
-        yield case(bench, "rests of other files, of which one ends there", order, 0, true, "they were cut from")
-    lost = true[: made.items[0] + 70] + true[made.items[0] + 72 :]
-    for name, rest, wanted in (("", rests[1], (0, true, "they were cut from")), (", which end at no border", rests[1][:-1], (1, b"", ""))):
-        both = [true + rests[0], lost + rest]
-        yield case(bench, f"rests of other files{name}, and bytes lost before one", both, *wanted)
-    both = [true + rests[0], damaged(made) + zeros]
-    yield case(bench, "the rest of another file, and zeros", both, 1, b"", "what stands after the last element")
-    yield case(bench, "rests of two other files, and zeros", [true + rests[0], damaged(made) + zeros, true + rests[1]], 0, true, "cut from")
-    lower = element(0x185100, "CS", "HFS") + element(0x20000D, "UI", "1.2.3")
-    reads_on = true + (lower * 300)[: len(rests[0])]
-    yield case(bench, "elements of another file that begin there, and its rest", [reads_on, damaged(made) + rests[0]], 0, true, "cut from")
-    yield case(bench, "such elements behind each copy", [true + lower, damaged(made) + lower], 0, true + lower, "every copy has it so")
-    yield case(bench, "the rest of another file, zeros, and zeros", [true + rests[0], damaged(made) + zeros, true + zeros], 1, b"")
-    yield from of_shorter_copies(bench, made, zeros, rests[0])
-    yield from of_padded_copies(bench, made, rests[0])
-    padding = changed(true, (len(true) - 42, b"\x13\x57\x9b\xdf"))
-    yield case(bench, "the last element's tag is damaged", [padding, damaged(made)], 0, true)
-    both = [changed(true, (len(true) - 38, b"z")), changed(true, (len(true) - 36, b"\x07"))]
-    yield case(bench, "the last element's header is damaged in each copy", both, 0, true)
-    yield case(bench, "a tail, and a letter of a name", [true, flipped + zeros], 1, b"", "(0010,0010), undecided")
-
-
-def of_padded_copies(bench: Bench, made: File, rest: bytes) -> Iterator[Check]:
-    """Bytes of one value behind the elements are no part of the file, where not all copies have the same."""
-    true, inside = made.bytes, made.items[2] + 60
-    lost = true[:inside] + true[inside + 2 :]
-    for name, copies in (
-        ("two zeros, and a hundred", [true + bytes(2), damaged(made) + bytes(100)]),
-        ("zeros, and ones", [true + bytes(64), damaged(made) + b"\xff" * 64]),
-        ("zeros, and the other copy is cut", [true + bytes(300), true[:-60]]),
-        ("zeros behind a copy with bytes too many, and behind another one", [more_in_frame(made) + bytes(512), damaged(made) + bytes(2)]),
-        ("zeros behind a copy with bytes too many, and behind one that lost some", [more_in_frame(made) + bytes(2), lost + bytes(100)]),
-    ):
-        for order in (copies, copies[::-1]):
-            yield case(bench, name, order, 0, true, "they were cut from")
-    whole = true + bytes(100)
-    yield case(bench, "the same zeros, and a third copy is cut", [whole, damaged(made) + bytes(100), true[:-60]], 0, whole, "every copy")
-    for other in (true[:-60], damaged(made) + bytes(2), more_in_frame(made) + bytes(2)):
-        yield case(bench, "a rest of several values, and none or zeros", [true + rest, other], 1, b"", "OUT is not written")
-    hidden = [changed(true, (len(true) - 42, bytes(size)), (len(true) - 9, b"x")) for size in (5, 9)]
-    yield case(bench, "an element whose header is zeroed in each, and not its value", hidden, 1, b"", "OUT is not written")
-
-
-def more_in_frame(made: File) -> bytes:
-    """A copy with five bytes too many in its last frame."""
-    at = made.items[-1] + 60
-    return made.bytes[:at] + b"\x13\x57\x9b\xdf\x11" + made.bytes[at:]
-
-
-def of_shorter_copies(bench: Bench, made: File, zeros: bytes, rest: bytes) -> Iterator[Check]:
-    """A copy that lost bytes ends where the elements of another one do. One that was cut at a border of sectors does not show it.
-
-    Nor does one with another end of the last frame, as another file has it.
-    """
-    true, gone = made.bytes, made.bytes[:600] + made.bytes[616:]
-    for name, tail in (("zeros", zeros), ("the rest of another file", rest)):
-        for order in ([gone, true + tail], [true + tail, gone]):
-            yield case(bench, f"{name}, and the other copy lost bytes", order, 0, true, "they were cut from")
-    at = made.items[-1] + len(made.frames[-1]) - 20
-    strange = changed(true, (at, bytes(byte ^ 0x55 for byte in true[at : at + 20])))
-    found = without_tails([gone, strange + rest])
-    yield f"the same, and another end of the last frame: no cut ({found.cut})", not found.cut and not found.is_decided
-    bare, size = true[:-42], (len(true) - 42) % SECTOR + SECTOR  # without the element behind Pixel Data
-    turned = changed(bare, (SECTOR, bare[-size:]), (len(bare) - size, bare[SECTOR : SECTOR + size]))
-    found = without_tails([bare[:900] + bare[916:], turned])
-    yield f"a copy whose end stands elsewhere in it: no cut ({found.cut})", not found.cut
-    more = true[:700] + b"\x91\x3c\x77" + true[700:]
-    for name, tail in (("zeros", zeros), ("the rest of another file", rest)):
-        yield case(bench, f"{name} behind a copy that has bytes too many", [more + tail, damaged(made)], 0, true, "they were cut from")
-        yield case(bench, f"{name}, and each has bytes too many", [more + tail, more_in_frame(made)], 0, true, "they were cut from")
-    yield "no tail: no cut", not without_tails([gone, true]).cut
-    yield case(bench, "the same, and it ends before", [gone[:-1], true + rest], 1, b"", "what stands after the last element")
-    size = -(len(true) + 12) % 512  # bytes of an element that ends the file at a border of sectors
-    even = true + element(0xFFFCFFFC, "OB", bytes(size))
-    shorter = even[:600] + even[616:]
-    yield case(bench, "the same, and the elements end at a border", [shorter, even + rest], 1, b"", "what stands after the last element")
-    size = -(len(true) - 16 + 12) % 512  # the same of the shorter copy alone
-    even = true + element(0xFFFCFFFC, "OB", bytes(size))
-    shorter = even[:600] + even[616:]
-    yield case(bench, "the same, and the shorter one does", [shorter, even + rest], 1, b"", "what stands after the last element")
-    other = changed(gone, (len(gone) - 9, b"\1"))
-    yield case(bench, "the same, and it ends with other bytes", [other, true + rest], 1, b"", "what stands after the last element")
-    padded = true + element(0xFFFCFFFC, "OB", bytes(300))
-    cut = padded[:600] + padded[616:-100]
-    yield case(bench, "the same, and it is cut inside of zeros", [cut, padded + rest], 1, b"", "what stands after the last element")
-
-
 # Most copies ---------------------------------------------------------------------------------------
 
 
@@ -334,18 +205,20 @@ def checks_of_most(bench: Bench, made: File) -> Iterator[Check]:
     twice = changed(true, *((first + 60 + at, bytes([true[first + 60 + at] ^ 4])) for at in (0, 9)))
     yield case(bench, "two copies with damage of their own, and one with two flipped bits", [apart[0], twice, apart[1]], 0, true)
     second, third = made.items[1] + 60, made.items[2] + 60
+    two = bytes(one ^ other ^ byte for one, other, byte in zip(flips[0], flips[2], true))
     lost, more = true[:second] + true[second + 16 :], true[:third] + bytes(range(1, 6)) + true[third:]
     for name, copies in (("lost bytes", [true, lost]), ("got bytes", [more, true]), ("lost some, and one that got some", [lost, more])):
-        yield case(bench, f"one that {name} beside one with two flipped bits", [copies[0], twice, copies[1]], 0, true)
-    cut = [twice, twice[:-20], apart[0]]
+        yield case(bench, f"one that {name} beside one with two flipped bits", [copies[0], two, copies[1]], 0, true)
+    cut = [flips[0], flips[0][:-20], flips[2]]
     yield case(bench, "two copies of one damaged copy, of which one is cut", cut, 1, b"", "disputed")
-    source = changed(true, (true.index(b"UI", 180), b"TI"), (made.name_at, b"E"))
-    one_source = [source, changed(source, (made.items[1] + 70, bytes(8))), changed(true, (made.items[2] + 70, bytes(8)))]
+    valued, begin = with_value(made, random.Random(7).randbytes(1200))
+    source = changed(valued, (valued.index(b"UI", 180), b"TI"), (begin + 900, bytes([valued[begin + 900] ^ 4])))
+    one_source = [source, changed(source, (begin + 1700, bytes(8))), changed(valued, (begin + 2100, bytes(8)))]
     for copies in (one_source, one_source[::-1]):
-        yield case(bench, "two copies that have the same wrong VR, and another letter of a name", copies, 1, b"", "undecided")
-    both = [changed(twice, (true.index(b"UI", 180), b"TI")), changed(true, (made.items[1] + 70, bytes(8)))]
+        yield case(bench, "two copies that have the same wrong VR, and a flipped bit of a value", copies, 1, b"", "undecided")
+    both = [changed(flips[0], (true.index(b"UI", 180), b"TI")), flips[2]]
     both += [changed(both[0], (made.items[2] + 70, bytes(8)))]
-    yield case(bench, "two copies that have the same wrong VR, and two flipped bits", both, 1, b"", "disputed")
+    yield case(bench, "two copies that have the same wrong VR, and a flipped bit that decodes", both, 1, b"", "disputed")
     yield case(bench, "a letter of a name in one of three", [true, named, true], 0, true, "most copies have it")
     date, inner = element(0x80020, "DA", "20200131"), element(0x81040, "LO", "WARD") + element(0x81090, "LO", "ACME")
     pairs = (("", inner), ("A" * len(inner), b""))
@@ -543,6 +416,6 @@ def checks_of_read_anew(made: File) -> Iterator[Check]:
         yield f"read anew: {name} ({[fault.text for fault in found]})", told
 
 
-TRUTH = [checks_of_chimeras, checks_of_finished, checks_of_cuts, checks_of_tails, checks_of_most, checks_of_syntaxes]
+TRUTH = [checks_of_chimeras, checks_of_finished, checks_of_cuts, checks_of_most, checks_of_syntaxes]
 TRUTH += [checks_of_read_anew, checks_of_nothing_true, checks_of_lost_syntaxes, checks_of_leads, checks_of_strangers]
 TRUTH += [checks_of_most_frames]
