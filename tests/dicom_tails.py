@@ -1,4 +1,4 @@
-"""Checks of bytes behind the last element of copies, which are no part of the file, and of what can be one.
+"""Checks of bytes after the last element of copies, which are no part of the file, and of what can be one.
 
 Each case says what the status has to be and what OUT; "" stands for no OUT. `words` is what has to be printed.
 """
