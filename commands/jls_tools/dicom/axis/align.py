@@ -6,7 +6,7 @@ copies have one length then, and where they differ each has a byte of its own.
 from __future__ import annotations
 
 import re
-from collections.abc import Collection, Iterable, Iterator, Sequence
+from collections.abc import Collection, Iterable, Sequence
 from dataclasses import dataclass, field, replace
 from typing import Optional
 
