@@ -1,6 +1,8 @@
 //! Partial pictures whose texts were written out by hand: their readings, and the unions of two.
 
-use crate::merged_texts::merged;
+ghost use Rattle.std.specs.Prelude.{◌<◌, length};
+
+use crate::merged_texts::is_merged;
 use jls_partial::{InsertFault, LineSet, Partial, Status};
 use jls_values::{Merge, MergeFault, Shape, merge_all};
 use std::alloc::Global;
@@ -95,13 +97,24 @@ const JOINS: [(&[u8], &[u8], &[u8]); 9] = [
     (IN_SECOND, IN_FIRST, IN_BOTH),
 ];
 
-/// The text of the join of what two texts say. The second is merged, and merged again.
-fn join_of(alloc: Global, one: &[u8], other: &[u8]) -> Result<Vec<u8>, Fail> {
-    let mut joined = Partial::from_bytes(alloc, one)?;
-    let second = Partial::from_bytes(alloc, other)?;
+/// Whether a partial picture is written as this text.
+pub fn has_text(alloc: Global, partial: &Partial, text: &[u8]) -> Result<bool, Fail> {
+    Ok(partial.to_bytes(alloc)?.as_slice() == text)
+}
+
+/// Merges what a text says, and merges it again.
+fn merge_twice(joined: &mut Partial, alloc: Global, text: &[u8]) -> Result<(), Fail> {
+    let second = Partial::from_bytes(alloc, text)?;
     joined.merge(&second)?;
-    merge_all(&mut joined, &[second])?;
-    Ok(joined.to_bytes(alloc)?)
+    merge_all(joined, &[second])?;
+    Ok(())
+}
+
+/// Whether the join of what two texts say is written as the third.
+fn is_join(alloc: Global, one: &[u8], other: &[u8], text: &[u8]) -> Result<bool, Fail> {
+    let mut joined = Partial::from_bytes(alloc, one)?;
+    merge_twice(&mut joined, alloc, other)?;
+    has_text(alloc, &joined, text)
 }
 
 /// The union is the same where the second is merged as a partial picture, and as its text.
@@ -112,20 +125,14 @@ fn check_union(
     other: &[u8],
     joined: &[u8],
 ) -> Result<(), Fail> {
-    assert!(rt;
-        join_of(alloc, one, other)?.as_slice() == joined,
-        "{joined:?}"
-    );
-    assert!(rt;
-        merged(alloc, one, other)?.as_slice() == joined,
-        "{joined:?}"
-    );
+    assert!(rt; is_join(alloc, one, other, joined)?, "{joined:?}");
+    assert!(rt; is_merged(alloc, one, other, joined)?, "{joined:?}");
     Ok(())
 }
 
 #[test]
 fn joins_of_two(rt: HostRuntime) -> Result<(), Fail> {
-    for (one, other, joined) in JOINS {
+    for &(one, other, joined) in &JOINS {
         check_union(&rt, rt.alloc(), one, other, joined)?;
         check_union(&rt, rt.alloc(), other, one, joined)?;
     }
@@ -136,17 +143,20 @@ fn are_equal(alloc: Global, one: &[u8], other: &[u8]) -> Result<bool, Fail> {
     Ok(Partial::from_bytes(alloc, one)? == Partial::from_bytes(alloc, other)?)
 }
 
+/// Two texts, and whether they say the same.
+const PAIRS: [(&[u8], &[u8], bool); 7] = [
+    (THREE, THREE, true),
+    (THREE, FIVE, false),
+    (THREE, NO_READING, false),
+    (FIVE, TWO_READINGS, false),
+    (FIVE, OTHER_SHAPE, false),
+    (THREE, SOURCE_7, false),
+    (SOURCE_7, SOURCE_7, true),
+];
+
 #[test]
 fn one_picture_or_two(rt: HostRuntime) -> Result<(), Fail> {
-    for (one, other, same) in [
-        (THREE, THREE, true),
-        (THREE, FIVE, false),
-        (THREE, NO_READING, false),
-        (FIVE, TWO_READINGS, false),
-        (FIVE, OTHER_SHAPE, false),
-        (THREE, SOURCE_7, false),
-        (SOURCE_7, SOURCE_7, true),
-    ] {
+    for &(one, other, same) in &PAIRS {
         assert!(rt;
             are_equal(rt.alloc(), one, other)? == same,
             "{one:?} {other:?}"
@@ -169,28 +179,41 @@ fn marked_twice(alloc: Global) -> Result<Partial, Fail> {
     Ok(one)
 }
 
-#[test]
-fn readings_and_sources_of_one_line(rt: HostRuntime) -> Result<(), Fail> {
-    let mut one = marked_twice(rt.alloc())?;
+/// The line is read as 3 again, and as 5.
+fn check_readings(rt: &impl Abort, one: &mut Partial) {
     assert!(rt; one.insert(0, 0, &[3]) == Ok(false));
     assert!(rt; one.insert(0, 0, &[5]) == Ok(true));
-    assert!(rt; one.to_bytes(rt.alloc())?.as_slice() == ONE_SOURCE);
     assert!(rt; one.count(0, 0) == 2);
     assert!(rt; one.reading(0, 0, 0) == [3].as_slice());
     assert!(rt; one.reading(0, 0, 1) == [5].as_slice());
     assert!(rt; one.sources(0, 0, 0) == [7].as_slice());
-    Ok(())
 }
 
 #[test]
-fn missing_settled_and_disputed(rt: HostRuntime) -> Result<(), Fail> {
-    let mut one = one_line(rt.alloc())?;
+fn readings_and_sources_of_one_line(rt: HostRuntime) -> Result<(), Fail> {
+    let mut one = marked_twice(rt.alloc())?;
+    check_readings(&rt, &mut one);
+    assert!(rt; has_text(rt.alloc(), &one, ONE_SOURCE)?);
+    Ok(())
+}
+
+/// The line is read as 0, and then as 5.
+fn check_statuses(rt: &impl Abort, one: &mut Partial) -> Result<(), Fail>
+    requires component { 0 < length one.old.shape.ids }
+    requires line { 0 < one.old.shape.height }
+{
     assert!(rt; one.status(0, 0) == Status::Missing && !one.is_settled());
     one.insert(0, 0, &[0])?;
     assert!(rt; one.status(0, 0) == Status::Settled && one.is_settled());
     one.insert(0, 0, &[5])?;
     assert!(rt; one.status(0, 0) == Status::Disputed && !one.is_settled());
     Ok(())
+}
+
+#[test]
+fn missing_settled_and_disputed(rt: HostRuntime) -> Result<(), Fail> {
+    let mut one = one_line(rt.alloc())?;
+    check_statuses(&rt, &mut one)
 }
 
 /// A picture of ten lines, of which every other one, from this on, was read as its own number.
@@ -215,64 +238,94 @@ fn ten_lines_text(alloc: Global) -> Result<Vec<u8>, Fail> {
     Ok(text)
 }
 
+/// The picture of both halves.
+fn joined_halves(alloc: Global) -> Result<Partial, Fail> {
+    let mut odd = half(alloc, 1)?;
+    odd.merge(&half(alloc, 0)?)?;
+    Ok(odd)
+}
+
+/// Whether a picture is settled, and is written as the text of all ten lines.
+fn has_ten_lines(alloc: Global, joined: &Partial) -> Result<bool, Fail> {
+    let text = ten_lines_text(alloc)?;
+    Ok(joined.is_settled() && has_text(alloc, joined, &text)?)
+}
+
 #[test]
 fn ten_lines_from_two_halves(rt: HostRuntime) -> Result<(), Fail> {
-    let mut odd = half(rt.alloc(), 1)?;
-    odd.merge(&half(rt.alloc(), 0)?)?;
-    assert!(rt; odd.is_settled());
-    assert!(rt; odd.to_bytes(rt.alloc())? == ten_lines_text(rt.alloc())?);
+    let joined = joined_halves(rt.alloc())?;
+    assert!(rt; has_ten_lines(rt.alloc(), &joined)?);
     Ok(())
+}
+
+/// Identifiers of components, and the text of a picture of them of which nothing is known.
+const EMPTY_TEXTS: [(&[u8], &[u8]); 4] = [
+    (&[9], b"JLSP\x02\x0C\x02\x01\0\x03\x01\x09\0\0\0\0"),
+    (&[9, 7], b"JLSP\x02\x0C\x02\x01\0\x03\x02\x09\x07\0\0\0\0"),
+    (
+        &[9, 7, 200],
+        b"JLSP\x02\x0C\x02\x01\0\x03\x03\x09\x07\xC8\0\0\0\0",
+    ),
+    (
+        &[9, 7, 200, 0],
+        b"JLSP\x02\x0C\x02\x01\0\x03\x04\x09\x07\xC8\0\0\0\0\0",
+    ),
+];
+
+/// Whether this is the text of a picture of these components of which nothing is known.
+fn is_empty_text(alloc: Global, ids: &[u8], text: &[u8]) -> Result<bool, Fail> {
+    let empty = Partial::empty(alloc, Shape::new(12, 513, 3, ids)?);
+    Ok(has_text(alloc, &empty, text)? && Partial::from_bytes(alloc, text)? == empty)
 }
 
 #[test]
 fn nothing_known_of_one_to_four_components(rt: HostRuntime) -> Result<(), Fail> {
-    let rows: [(&[u8], &[u8]); 4] = [
-        (&[9], b"JLSP\x02\x0C\x02\x01\0\x03\x01\x09\0\0\0\0"),
-        (&[9, 7], b"JLSP\x02\x0C\x02\x01\0\x03\x02\x09\x07\0\0\0\0"),
-        (
-            &[9, 7, 200],
-            b"JLSP\x02\x0C\x02\x01\0\x03\x03\x09\x07\xC8\0\0\0\0",
-        ),
-        (
-            &[9, 7, 200, 0],
-            b"JLSP\x02\x0C\x02\x01\0\x03\x04\x09\x07\xC8\0\0\0\0\0",
-        ),
-    ];
-    for (ids, text) in rows {
-        let empty = Partial::empty(rt.alloc(), Shape::new(12, 513, 3, ids)?);
-        assert!(rt; empty.to_bytes(rt.alloc())?.as_slice() == text);
-        assert!(rt; Partial::from_bytes(rt.alloc(), text)? == empty);
+    for &(ids, text) in &EMPTY_TEXTS {
+        assert!(rt; is_empty_text(rt.alloc(), ids, text)?, "{ids:?}");
     }
     Ok(())
 }
 
-#[test]
-fn refusals_in_order(rt: HostRuntime) -> Result<(), Fail> {
-    let mut one = Partial::empty(rt.alloc(), Shape::new(8, 1, 2, &[1])?);
-    for (component, line, samples, wanted) in [
-        (1, 2, &[256u16, 0][..], Err(InsertFault::Component)),
-        (0, 2, &[256, 0], Err(InsertFault::Line)),
-        (0, 1, &[256, 0], Err(InsertFault::Width)),
-        (0, 1, &[256], Err(InsertFault::Sample)),
-        (0, 1, &[255], Ok(true)),
-        (0, 1, &[255], Ok(false)),
-    ] {
+/// Component, line and samples, and the answer if they are inserted one after the other.
+const INSERTIONS: [(u8, u16, &[u16], Result<bool, InsertFault>); 6] = [
+    (1, 2, &[256, 0], Err(InsertFault::Component)),
+    (0, 2, &[256, 0], Err(InsertFault::Line)),
+    (0, 1, &[256, 0], Err(InsertFault::Width)),
+    (0, 1, &[256], Err(InsertFault::Sample)),
+    (0, 1, &[255], Ok(true)),
+    (0, 1, &[255], Ok(false)),
+];
+
+/// Inserts each of them.
+fn check_insertions(rt: &impl Abort, one: &mut Partial) {
+    for &(component, line, samples, wanted) in &INSERTIONS {
         assert!(rt;
             one.insert(component, line, samples) == wanted,
             "{wanted:?}"
         );
     }
-    assert!(rt; one.to_bytes(rt.alloc())?.as_slice() == SECOND_LINE);
+}
+
+#[test]
+fn refusals_in_order(rt: HostRuntime) -> Result<(), Fail> {
+    let mut one = Partial::empty(rt.alloc(), Shape::new(8, 1, 2, &[1])?);
+    check_insertions(&rt, &mut one);
+    assert!(rt; has_text(rt.alloc(), &one, SECOND_LINE)?);
     Ok(())
 }
 
 #[test]
 fn shapes_that_differ(rt: HostRuntime) -> Result<(), Fail> {
     let mut one = Partial::from_bytes(rt.alloc(), THREE)?;
-    let other = Partial::from_bytes(rt.alloc(), OTHER_SHAPE)?;
-    assert!(rt; one.merge(&other) == Err(MergeFault::ShapeDiffers));
-    assert!(rt; one.to_bytes(rt.alloc())?.as_slice() == THREE);
+    assert!(rt; merged_shape_differs(rt.alloc(), &mut one)?);
+    assert!(rt; has_text(rt.alloc(), &one, THREE)?);
     Ok(())
+}
+
+/// Whether a picture of another shape is not merged.
+fn merged_shape_differs(alloc: Global, one: &mut Partial) -> Result<bool, Fail> {
+    let other = Partial::from_bytes(alloc, OTHER_SHAPE)?;
+    Ok(one.merge(&other) == Err(MergeFault::ShapeDiffers))
 }
 
 /// Reads the line of a picture as each even number below 1024, or as each odd one, in the order of the multiples of `step`.
@@ -320,18 +373,31 @@ fn readings_of_one_line_in_any_order(rt: HostRuntime) -> Result<(), Fail> {
     Ok(())
 }
 
+/// Samples, and the answer if they are added one after the other.
+const ADDITIONS: [(&[u16], Result<bool, InsertFault>); 5] = [
+    (&[5], Ok(true)),
+    (&[5], Ok(false)),
+    (&[3], Ok(true)),
+    (&[256], Err(InsertFault::Sample)),
+    (&[256, 0], Err(InsertFault::Width)),
+];
+
+/// Adds each of them.
+fn check_additions(rt: &impl Abort, lines: &mut LineSet) {
+    for &(samples, wanted) in &ADDITIONS {
+        assert!(rt; lines.add(samples) == wanted, "{samples:?}");
+    }
+}
+
 #[test]
 fn lines_of_one_width(rt: HostRuntime) {
     let mut lines = LineSet::empty(rt.alloc(), 8, 1);
-    for (samples, wanted) in [
-        (&[5u16][..], Ok(true)),
-        (&[5], Ok(false)),
-        (&[3], Ok(true)),
-        (&[256], Err(InsertFault::Sample)),
-        (&[256, 0], Err(InsertFault::Width)),
-    ] {
-        assert!(rt; lines.add(samples) == wanted, "{samples:?}");
-    }
+    check_additions(&rt, &mut lines);
+    check_three_and_five(&rt, &lines);
+}
+
+/// A set has the lines 3 and 5, and no sources.
+fn check_three_and_five(rt: &impl Abort, lines: &LineSet) {
     assert!(rt; lines.len() == 2);
     assert!(rt; lines.get(0) == [3].as_slice());
     assert!(rt; lines.get(1) == [5].as_slice());
@@ -345,11 +411,17 @@ fn line_of(alloc: Global, sample: u16) -> Result<LineSet, Fail> {
     Ok(lines)
 }
 
-/// The set of the line 3, and that of both, which was merged.
+/// The set of the line 5 and these, which were merged.
+fn five_and(alloc: Global, lines: &LineSet) -> Result<LineSet, Fail> {
+    let mut both = line_of(alloc, 5)?;
+    both.merge(lines)?;
+    Ok(both)
+}
+
+/// The set of the line 3, and that of both.
 fn three_and_both(alloc: Global) -> Result<[LineSet; 2], Fail> {
     let three = line_of(alloc, 3)?;
-    let mut both = line_of(alloc, 5)?;
-    both.merge(&three)?;
+    let both = five_and(alloc, &three)?;
     Ok([three, both])
 }
 
@@ -358,9 +430,7 @@ fn line_sets_joined(rt: HostRuntime) -> Result<(), Fail> {
     let sets = three_and_both(rt.alloc())?;
     let mut all = LineSet::empty(rt.alloc(), 8, 1);
     merge_all(&mut all, &sets)?;
-    assert!(rt; all.len() == 2);
-    assert!(rt; all.get(0) == [3].as_slice());
-    assert!(rt; all.get(1) == [5].as_slice());
+    check_three_and_five(&rt, &all);
     check_other_shapes(&rt, rt.alloc(), &sets);
     Ok(())
 }

@@ -1,6 +1,6 @@
 //! Texts that were written out by hand, and what is wrong with each change of them.
 
-use crate::partial::{TWO_READINGS as TWO_READINGS_2, TWO_SOURCES};
+use crate::partial::{TWO_READINGS as TWO_READINGS_2, TWO_SOURCES, has_text};
 use jls_partial::{Partial, TextFault};
 use jls_values::Shape;
 use std::alloc::Global;
@@ -43,19 +43,24 @@ fn fault_of_change(
     Ok(fault_of(alloc, &text))
 }
 
+/// Texts of both versions, and the texts that are written of them.
+const VERSIONS: [(&[u8], &[u8]); 4] = [
+    (TWO_READINGS, TWO_READINGS_2),
+    (TWO_READINGS_2, TWO_READINGS_2),
+    (TWO_COMPONENTS, TWO_COMPONENTS_2),
+    (TWO_SOURCES, TWO_SOURCES),
+];
+
+/// Whether what a text says is written as the other one.
+fn is_written_as(alloc: Global, text: &[u8], written: &[u8]) -> Result<bool, Fail> {
+    let read = Partial::from_bytes(alloc, text)?;
+    has_text(alloc, &read, written)
+}
+
 #[test]
 fn reads_both_versions(rt: HostRuntime) -> Result<(), Fail> {
-    for (text, written) in [
-        (TWO_READINGS, TWO_READINGS_2),
-        (TWO_READINGS_2, TWO_READINGS_2),
-        (TWO_COMPONENTS, TWO_COMPONENTS_2),
-        (TWO_SOURCES, TWO_SOURCES),
-    ] {
-        let read = Partial::from_bytes(rt.alloc(), text)?;
-        assert!(rt;
-            read.to_bytes(rt.alloc())?.as_slice() == written,
-            "{written:?}"
-        );
+    for &(text, written) in &VERSIONS {
+        assert!(rt; is_written_as(rt.alloc(), text, written)?, "{written:?}");
     }
     Ok(())
 }
@@ -72,13 +77,24 @@ fn ten_lines_text(alloc: Global) -> Result<Vec<u8>, Fail> {
     Ok(text)
 }
 
+/// The picture of these lines.
+fn ten_lines(alloc: Global) -> Result<Partial, Fail> {
+    let mut lines = Partial::empty(alloc, Shape::new(8, 1, 10, &[1])?);
+    for line in 0..10u16 {
+        lines.insert(0, line, &[line])?;
+    }
+    Ok(lines)
+}
+
+/// Whether a text gives this picture.
+fn gives(alloc: Global, text: &[u8], wanted: &Partial) -> Result<bool, Fail> {
+    Ok(Partial::from_bytes(alloc, text)? == *wanted)
+}
+
 #[test]
 fn reads_a_text_of_ten_lines(rt: HostRuntime) -> Result<(), Fail> {
-    let mut wanted = Partial::empty(rt.alloc(), Shape::new(8, 1, 10, &[1])?);
-    for line in 0..10u16 {
-        wanted.insert(0, line, &[line])?;
-    }
-    assert!(rt; Partial::from_bytes(rt.alloc(), &ten_lines_text(rt.alloc())?)? == wanted);
+    let text = ten_lines_text(rt.alloc())?;
+    assert!(rt; gives(rt.alloc(), &text, &ten_lines(rt.alloc())?)?);
     Ok(())
 }
 
@@ -143,7 +159,7 @@ const CHANGES: [(&[u8], usize, u8, TextFault); 42] = [
 
 #[test]
 fn finds_the_fault_of_one_byte(rt: HostRuntime) -> Result<(), Fail> {
-    for (text, at, byte, fault) in CHANGES {
+    for &(text, at, byte, fault) in &CHANGES {
         assert!(rt;
             fault_of_change(rt.alloc(), text, at, byte)? == Some(fault),
             "byte {at} is {byte}"
@@ -152,16 +168,19 @@ fn finds_the_fault_of_one_byte(rt: HostRuntime) -> Result<(), Fail> {
     Ok(())
 }
 
+/// Texts, and where a number stands in them that is not in its last byte.
+const NUMBERS: [(&[u8], usize, usize); 5] = [
+    (TWO_READINGS, 12, 15),
+    (TWO_READINGS, 19, 26),
+    (TWO_SOURCES, 12, 15),
+    (TWO_SOURCES, 19, 26),
+    (TWO_SOURCES, 29, 36),
+];
+
 /// Numbers of entries, readings and sources beyond what is there, up to 255 * 2^56: each by one byte of the number.
 #[test]
 fn a_number_that_claims_more_is_truncated_at_the_end(rt: HostRuntime) -> Result<(), Fail> {
-    for (text, first, end) in [
-        (TWO_READINGS, 12usize, 15),
-        (TWO_READINGS, 19, 26),
-        (TWO_SOURCES, 12, 15),
-        (TWO_SOURCES, 19, 26),
-        (TWO_SOURCES, 29, 36),
-    ] {
+    for &(text, first, end) in &NUMBERS {
         for at in first..end {
             for byte in [1, 255] {
                 let fault = TextFault::Truncated(text.len() as u64);
@@ -175,18 +194,29 @@ fn a_number_that_claims_more_is_truncated_at_the_end(rt: HostRuntime) -> Result<
     Ok(())
 }
 
+/// Readings, and the fault of a text that ends in them.
+const READINGS: [(&[u8], TextFault); 5] = [
+    (&[0, 5, 0, 3], TextFault::Order(29)),
+    (&[0, 3, 0, 3], TextFault::Order(29)),
+    (&[0, 3, 1, 0], TextFault::Sample(29)),
+    (&[0, 5, 1, 0], TextFault::Sample(29)),
+    (&[0, 3, 0, 5, 0], TextFault::Trailing(31)),
+];
+
+/// The fault of the text that ends in these readings.
+fn fault_of_readings(alloc: Global, readings: &[u8]) -> Result<Option<TextFault>, Fail> {
+    let mut text = Vec::from_slice(alloc, &TWO_READINGS[..27])?;
+    text.extend_from_slice(readings)?;
+    Ok(fault_of(alloc, &text))
+}
+
 #[test]
 fn finds_the_fault_of_several_bytes(rt: HostRuntime) -> Result<(), Fail> {
-    for (readings, fault) in [
-        (&[0u8, 5, 0, 3][..], TextFault::Order(29)),
-        (&[0, 3, 0, 3], TextFault::Order(29)),
-        (&[0, 3, 1, 0], TextFault::Sample(29)),
-        (&[0, 5, 1, 0], TextFault::Sample(29)),
-        (&[0, 3, 0, 5, 0], TextFault::Trailing(31)),
-    ] {
-        let mut text = Vec::from_slice(rt.alloc(), &TWO_READINGS[..27])?;
-        text.extend_from_slice(readings)?;
-        assert!(rt; fault_of(rt.alloc(), &text) == Some(fault), "{readings:?}");
+    for &(readings, fault) in &READINGS {
+        assert!(rt;
+            fault_of_readings(rt.alloc(), readings)? == Some(fault),
+            "{readings:?}"
+        );
     }
     Ok(())
 }
