@@ -59,21 +59,23 @@ fn prefixes(rt: HostRuntime) -> Result<(), Fail> {
     Ok(())
 }
 
-/// The lines 1 and 34 of one sample, of 8 bits, are the bytes 50 00 0C. Where the input ends before or in line 1, or in other bytes
-/// in its place: nothing; in the zeros of its code; in an escape that can be 92 to 96; in an escape that could only be a number of
-/// at most 16, which has a short code; after so many zeros that no code begins with them.
+/// The first bytes of two lines, or others in their place, and the lines that stand whole in them: none before or in line 1; one in the
+/// zeros of the second code, and in an escape that can be 92 to 96; none in an escape that could only be a number of at most 16, which
+/// has a short code, and after so many zeros that no code begins with them.
+const CUT_CODES: [(&[u8], &[&[u16]]); 6] = [
+    (&[], &[]),
+    (&[0x50], &[&[1]]),
+    (&[0x50, 0x00], &[&[1]]),
+    (&[0x50, 0x00, 0x00, 0x15], &[&[1]]),
+    (&[0x50, 0x00, 0x00, 0x10], &[]),
+    (&[0x50, 0x00, 0x00, 0x00, 0x00], &[]),
+];
+
+/// The lines 1 and 34 of one sample, of 8 bits, are the bytes 50 00 0C.
 #[test]
 fn cut_codes(rt: HostRuntime) -> Result<(), Fail> {
     let size = Size::new(1, 1, 2);
-    let pieces: [(&[u8], &[&[u16]]); 6] = [
-        (&[], &[]),
-        (&[0x50], &[&[1]]),
-        (&[0x50, 0x00], &[&[1]]),
-        (&[0x50, 0x00, 0x00, 0x15], &[&[1]]),
-        (&[0x50, 0x00, 0x00, 0x10], &[]),
-        (&[0x50, 0x00, 0x00, 0x00, 0x00], &[]),
-    ];
-    for (piece, lines) in pieces {
+    for &(piece, lines) in &CUT_CODES {
         assert!(rt;
             has_head(rt.alloc(), &size, piece, lines, PieceFault::Broken)?,
             "of {piece:?}"
@@ -82,19 +84,29 @@ fn cut_codes(rt: HostRuntime) -> Result<(), Fail> {
     Ok(())
 }
 
-/// The same picture whole, with a byte too many, and with a byte that no data bits can have.
+/// Whether the bytes of that picture give both lines, and no fault.
+fn is_whole(alloc: Global, size: &Size) -> Result<bool, Fail> {
+    let lines = vec![in alloc; vec![in alloc; 1]?, vec![in alloc; 34]?]?;
+    let (found, met) = cut(alloc, size, &[0x50, 0x00, 0x0C])?;
+    Ok(found == lines && met.is_none())
+}
+
+/// A byte too many, and a byte that no data bits can have.
+const FAULTY: [(&[u8], PieceFault); 2] = [
+    (&[0x50, 0x00, 0x0C, 0x00], PieceFault::Long),
+    (&[0x50, 0xFF, 0x80], PieceFault::Broken),
+];
+
+/// The same picture whole, and with such a byte.
 #[test]
 fn whole_and_faulty(rt: HostRuntime) -> Result<(), Fail> {
-    let alloc = rt.alloc();
     let size = Size::new(1, 1, 2);
-    let lines = vec![in alloc; vec![in alloc; 1]?, vec![in alloc; 34]?]?;
-    let (found, met) = cut(alloc, &size, &[0x50, 0x00, 0x0C])?;
-    assert!(rt; found == lines && met.is_none());
-    for (piece, fault) in [
-        (&[0x50, 0x00, 0x0C, 0x00][..], PieceFault::Long),
-        (&[0x50, 0xFF, 0x80], PieceFault::Broken),
-    ] {
-        assert!(rt; has_head(alloc, &size, piece, &[], fault)?, "of {piece:?}");
+    assert!(rt; is_whole(rt.alloc(), &size)?);
+    for &(piece, fault) in &FAULTY {
+        assert!(rt;
+            has_head(rt.alloc(), &size, piece, &[], fault)?,
+            "of {piece:?}"
+        );
     }
     Ok(())
 }

@@ -2,6 +2,7 @@
 
 use jls_interval::*;
 use jls_values::Params;
+use std::alloc::Global;
 use std::fmt::Write;
 use std::test::Fail;
 
@@ -81,26 +82,35 @@ fn prefixes(rt: HostRuntime) -> Result<(), Fail> {
     Ok(())
 }
 
-#[test]
-fn changed_bits(rt: HostRuntime) -> Result<(), Fail> {
-    let alloc = rt.alloc();
+/// The kind of a piece, whose lines are put into a line of the text if it reads.
+fn kind_of(alloc: Global, piece: &[u8], lines: &mut String) -> Result<char, Fail> {
     let params = Params::new(8, 0, 0, 0, 0, 0)?;
+    match decode_interval(alloc, &params, 4, 1, 4, piece) {
+        Ok(read) => {
+            writeln!(lines, "{read:?}")?;
+            Ok('r')
+        }
+        Err(PieceFault::Long) => Ok('L'),
+        Err(PieceFault::Broken) => Ok('B'),
+        Err(PieceFault::OutOfMemory) => Ok('M'),
+    }
+}
+
+/// The kinds of the pieces with one changed bit. The lines of those that read are put into the text.
+fn kinds_of_changes(alloc: Global, lines: &mut String) -> Result<String, Fail> {
     let mut kinds = String::new(alloc);
-    let mut lines = String::new(alloc);
     for at in 0..8 * PIECE.len() {
         let mut piece = PIECE;
         piece[at / 8] ^= 0x80 >> (at % 8);
-        match decode_interval(alloc, &params, 4, 1, 4, &piece) {
-            Ok(read) => {
-                kinds.push('r')?;
-                writeln!(lines, "{read:?}")?;
-            }
-            Err(PieceFault::Long) => kinds.push('L')?,
-            Err(PieceFault::Broken) => kinds.push('B')?,
-            Err(PieceFault::OutOfMemory) => kinds.push('M')?,
-        }
+        kinds.push(kind_of(alloc, &piece, lines)?)?;
     }
-    assert!(rt; kinds.as_str() == KINDS);
+    Ok(kinds)
+}
+
+#[test]
+fn changed_bits(rt: HostRuntime) -> Result<(), Fail> {
+    let mut lines = String::new(rt.alloc());
+    assert!(rt; kinds_of_changes(rt.alloc(), &mut lines)?.as_str() == KINDS);
     assert!(rt; lines.as_str() == LINES);
     Ok(())
 }

@@ -125,7 +125,7 @@ pub const OTHER_PARAMETERS: [(u8, u16, u16, &[u8]); 5] = [
 fn single_samples(rt: HostRuntime) -> Result<(), Fail> {
     let alloc = rt.alloc();
     let params = Params::new(8, 0, 0, 0, 0, 0)?;
-    for (sample, byte) in SINGLE_SAMPLES {
+    for &(sample, byte) in &SINGLE_SAMPLES {
         assert!(rt;
             reads_as(alloc, &params, &Size::new(1, 1, 1), &[byte], &[&[sample]]),
             "{sample}"
@@ -136,7 +136,7 @@ fn single_samples(rt: HostRuntime) -> Result<(), Fail> {
 
 #[test]
 fn other_parameters(rt: HostRuntime) -> Result<(), Fail> {
-    for (precision, maxval, sample, piece) in OTHER_PARAMETERS {
+    for &(precision, maxval, sample, piece) in &OTHER_PARAMETERS {
         let params = Params::new(precision, maxval, 0, 0, 0, 0)?;
         assert!(rt;
             reads_as(
@@ -152,18 +152,20 @@ fn other_parameters(rt: HostRuntime) -> Result<(), Fail> {
     Ok(())
 }
 
+/// The width of a line, its piece, and the line.
+const RUNS: [(u16, &[u8], &[u16]); 5] = [
+    (12, &[0xFF, 0x00], &[0; 12]),
+    (13, &[0xFF, 0x40], &[0; 13]),
+    (16, &[0xFF, 0x40], &[0; 16]),
+    (5, &[0xF8], &[0; 5]),
+    (5, &[0xF0, 0x00, 0x00, 0x1B, 0x20], &[0, 0, 0, 0, 90]),
+];
+
 #[test]
 fn runs(rt: HostRuntime) -> Result<(), Fail> {
     let alloc = rt.alloc();
     let params = Params::new(8, 0, 0, 0, 0, 0)?;
-    let rows: [(u16, &[u8], &[u16]); 5] = [
-        (12, &[0xFF, 0x00], &[0; 12]),
-        (13, &[0xFF, 0x40], &[0; 13]),
-        (16, &[0xFF, 0x40], &[0; 16]),
-        (5, &[0xF8], &[0; 5]),
-        (5, &[0xF0, 0x00, 0x00, 0x1B, 0x20], &[0, 0, 0, 0, 90]),
-    ];
-    for (width, piece, line) in rows {
+    for &(width, piece, line) in &RUNS {
         let width = width.max(1);
         assert!(rt;
             reads_as(alloc, &params, &Size::new(width, 1, 1), piece, &[line]),
@@ -210,6 +212,15 @@ fn several_lines(rt: HostRuntime) -> Result<(), Fail> {
     Ok(())
 }
 
+/// Pieces that are cut before the escape and inside it; escapes of a number with a short code, and with too many zeros.
+const CUT_ESCAPES: [&[u8]; 5] = [
+    &[0x50],
+    &[0x50, 0x00],
+    &[0x50, 0x00, 0x00, 0x15],
+    &[0x50, 0x00, 0x00, 0x10],
+    &[0x50, 0x00, 0x00, 0x00, 0x00],
+];
+
 #[test]
 fn an_escape(rt: HostRuntime) -> Result<(), Fail> {
     let alloc = rt.alloc();
@@ -223,15 +234,7 @@ fn an_escape(rt: HostRuntime) -> Result<(), Fail> {
             &[&[1], &[34]]
         )
     );
-    // Cut before the escape and inside it; escapes of a number with a short code, and with too many zeros.
-    let pieces: [&[u8]; 5] = [
-        &[0x50],
-        &[0x50, 0x00],
-        &[0x50, 0x00, 0x00, 0x15],
-        &[0x50, 0x00, 0x00, 0x10],
-        &[0x50, 0x00, 0x00, 0x00, 0x00],
-    ];
-    for piece in pieces {
+    for &piece in &CUT_ESCAPES {
         let fault = fault(alloc, &params, 1, 2, piece);
         assert!(rt; fault == Some(PieceFault::Broken), "of {piece:?}");
     }
@@ -264,21 +267,23 @@ fn several_components(rt: HostRuntime) -> Result<(), Fail> {
     Ok(())
 }
 
+/// Pieces of one sample that are broken.
+const BROKEN_PIECES: [&[u8]; 5] = [
+    &[],
+    // An escape for 1, which has a short code, and one for 256, to which no error is mapped.
+    &[0x00, 0x00, 0x01, 0x00],
+    &[0x00, 0x00, 0x01, 0xFF, 0x00],
+    // A marker after the last line, and after more bits than may follow it.
+    &[0x70, 0xFF, 0xA3],
+    &[0x80, 0x00, 0xFF, 0x90],
+];
+
 #[test]
 fn broken_pieces(rt: HostRuntime) -> Result<(), Fail> {
     let alloc = rt.alloc();
     let params = Params::new(8, 0, 0, 0, 0, 0)?;
     let broken = Some(PieceFault::Broken);
-    let pieces: [&[u8]; 5] = [
-        &[],
-        // An escape for 1, which has a short code, and one for 256, to which no error is mapped.
-        &[0x00, 0x00, 0x01, 0x00],
-        &[0x00, 0x00, 0x01, 0xFF, 0x00],
-        // A marker after the last line, and after more bits than may follow it.
-        &[0x70, 0xFF, 0xA3],
-        &[0x80, 0x00, 0xFF, 0x90],
-    ];
-    for piece in pieces {
+    for &piece in &BROKEN_PIECES {
         assert!(rt;
             fault(alloc, &params, 1, 1, piece) == broken,
             "of {piece:?}"
@@ -291,19 +296,21 @@ fn broken_pieces(rt: HostRuntime) -> Result<(), Fail> {
     Ok(())
 }
 
+/// Pieces of one sample that are too long.
+const LONG_PIECES: [&[u8]; 4] = [
+    &[0x80, 0x00],
+    // Eight bits, after a code of eight.
+    &[0x05, 0x00],
+    &[0x80, 0x00, 0xFF, 0x00],
+    &[0x28, 0x38],
+];
+
 #[test]
 fn long_pieces(rt: HostRuntime) -> Result<(), Fail> {
     let alloc = rt.alloc();
     let params = Params::new(8, 0, 0, 0, 0, 0)?;
     assert!(rt; reads_as(alloc, &params, &Size::new(1, 1, 1), &[0xC0], &[&[0]]));
-    let pieces: [&[u8]; 4] = [
-        &[0x80, 0x00],
-        // Eight bits, after a code of eight.
-        &[0x05, 0x00],
-        &[0x80, 0x00, 0xFF, 0x00],
-        &[0x28, 0x38],
-    ];
-    for piece in pieces {
+    for &piece in &LONG_PIECES {
         let fault = fault(alloc, &params, 1, 1, piece);
         assert!(rt; fault == Some(PieceFault::Long), "of {piece:?}");
     }

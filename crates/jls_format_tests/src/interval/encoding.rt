@@ -59,7 +59,7 @@ fn alone_as(
 fn single_samples(rt: HostRuntime) -> Result<(), Fail> {
     let alloc = rt.alloc();
     let params = Params::new(8, 0, 0, 0, 0, 0)?;
-    for (sample, byte) in SINGLE_SAMPLES {
+    for &(sample, byte) in &SINGLE_SAMPLES {
         assert!(rt;
             alone_as(alloc, &params, 1, &[&[sample]], &[byte])?,
             "{sample}"
@@ -70,7 +70,7 @@ fn single_samples(rt: HostRuntime) -> Result<(), Fail> {
 
 #[test]
 fn other_parameters(rt: HostRuntime) -> Result<(), Fail> {
-    for (precision, maxval, sample, bytes) in OTHER_PARAMETERS {
+    for &(precision, maxval, sample, bytes) in &OTHER_PARAMETERS {
         let params = Params::new(precision, maxval, 0, 0, 0, 0)?;
         assert!(rt;
             alone_as(rt.alloc(), &params, 1, &[&[sample]], bytes)?,
@@ -80,18 +80,20 @@ fn other_parameters(rt: HostRuntime) -> Result<(), Fail> {
     Ok(())
 }
 
+/// Width, lines of one component, and the bytes that they are written as.
+const RUNS: [(u16, &[&[u16]], &[u8]); 6] = [
+    (12, &[&[0; 12]], &[0xFF, 0x00]),
+    (13, &[&[0; 13]], &[0xFF, 0x40]),
+    (16, &[&[0; 16]], &[0xFF, 0x40]),
+    (5, &[&[0; 5]], &[0xF8]),
+    (5, &[&[0, 0, 0, 0, 90]], &[0xF0, 0x00, 0x00, 0x1B, 0x20]),
+    (1, &[&[0], &[0]], &[0xC0]),
+];
+
 #[test]
 fn runs(rt: HostRuntime) -> Result<(), Fail> {
     let params = Params::new(8, 0, 0, 0, 0, 0)?;
-    let rows: [(u16, &[&[u16]], &[u8]); 6] = [
-        (12, &[&[0; 12]], &[0xFF, 0x00]),
-        (13, &[&[0; 13]], &[0xFF, 0x40]),
-        (16, &[&[0; 16]], &[0xFF, 0x40]),
-        (5, &[&[0; 5]], &[0xF8]),
-        (5, &[&[0, 0, 0, 0, 90]], &[0xF0, 0x00, 0x00, 0x1B, 0x20]),
-        (1, &[&[0], &[0]], &[0xC0]),
-    ];
-    for (width, lines, bytes) in rows {
+    for &(width, lines, bytes) in &RUNS {
         assert!(rt;
             alone_as(rt.alloc(), &params, width, lines, bytes)?,
             "{lines:?}"
@@ -100,29 +102,31 @@ fn runs(rt: HostRuntime) -> Result<(), Fail> {
     Ok(())
 }
 
+/// The same of several lines.
+const SEVERAL_LINES: [(u16, &[&[u16]], &[u8]); 4] = [
+    (
+        4,
+        &[
+            &[0, 0, 90, 74],
+            &[68, 50, 43, 205],
+            &[64, 145, 145, 145],
+            &[100, 145, 145, 145],
+        ],
+        &[
+            0xC0, 0x00, 0x00, 0x6C, 0x80, 0x20, 0x8E, 0x01, 0xC0, 0x00, 0x00, 0x57, 0x40, 0x00,
+            0x00, 0x6E, 0xE6, 0x00, 0x00, 0x01, 0xBC, 0x18, 0x00, 0x00, 0x05, 0xD8, 0x00, 0x00,
+            0x91, 0x60,
+        ],
+    ),
+    (3, &[&[0, 0, 5], &[0, 0, 5]], &[0xC5, 0xD0]),
+    (3, &[&[0, 0, 5], &[0, 0, 0]], &[0xC5, 0xE0]),
+    (1, &[&[1], &[34]], &[0x50, 0x00, 0x0C]),
+];
+
 #[test]
 fn several_lines(rt: HostRuntime) -> Result<(), Fail> {
     let params = Params::new(8, 0, 0, 0, 0, 0)?;
-    let rows: [(u16, &[&[u16]], &[u8]); 4] = [
-        (
-            4,
-            &[
-                &[0, 0, 90, 74],
-                &[68, 50, 43, 205],
-                &[64, 145, 145, 145],
-                &[100, 145, 145, 145],
-            ],
-            &[
-                0xC0, 0x00, 0x00, 0x6C, 0x80, 0x20, 0x8E, 0x01, 0xC0, 0x00, 0x00, 0x57, 0x40, 0x00,
-                0x00, 0x6E, 0xE6, 0x00, 0x00, 0x01, 0xBC, 0x18, 0x00, 0x00, 0x05, 0xD8, 0x00, 0x00,
-                0x91, 0x60,
-            ],
-        ),
-        (3, &[&[0, 0, 5], &[0, 0, 5]], &[0xC5, 0xD0]),
-        (3, &[&[0, 0, 5], &[0, 0, 0]], &[0xC5, 0xE0]),
-        (1, &[&[1], &[34]], &[0x50, 0x00, 0x0C]),
-    ];
-    for (width, lines, bytes) in rows {
+    for &(width, lines, bytes) in &SEVERAL_LINES {
         assert!(rt;
             alone_as(rt.alloc(), &params, width, lines, bytes)?,
             "{lines:?}"
@@ -145,23 +149,23 @@ fn runs_of_several_lines(rt: HostRuntime) -> Result<(), Fail> {
     Ok(())
 }
 
+/// MAXVAL, width, count, lines and bytes. Two rows; and both components in the contexts of one MAXVAL, which isn't that of the precision.
+const SEVERAL_COMPONENTS: [(u16, u16, u8, &[&[u16]], &[u8]); 4] = [
+    (0, 1, 2, &[&[10], &[10]], &[0x07, 0x16]),
+    (0, 4, 3, &[&[0; 4], &[0; 4], &[0; 4]], &[0xFF, 0x78]),
+    (
+        0,
+        1,
+        2,
+        &[&[10], &[20], &[30], &[40]],
+        &[0x07, 0x07, 0x80, 0x10, 0xB0],
+    ),
+    (159, 2, 2, &[&[10, 12], &[10, 12]], &[0x07, 0xE2, 0xE8]),
+];
+
 #[test]
 fn several_components(rt: HostRuntime) -> Result<(), Fail> {
-    // MAXVAL, width, count, lines and bytes. Two rows; and both components in the contexts of one MAXVAL, which isn't that of
-    // the precision.
-    let rows: [(u16, u16, u8, &[&[u16]], &[u8]); 4] = [
-        (0, 1, 2, &[&[10], &[10]], &[0x07, 0x16]),
-        (0, 4, 3, &[&[0; 4], &[0; 4], &[0; 4]], &[0xFF, 0x78]),
-        (
-            0,
-            1,
-            2,
-            &[&[10], &[20], &[30], &[40]],
-            &[0x07, 0x07, 0x80, 0x10, 0xB0],
-        ),
-        (159, 2, 2, &[&[10, 12], &[10, 12]], &[0x07, 0xE2, 0xE8]),
-    ];
-    for (maxval, width, components, lines, bytes) in rows {
+    for &(maxval, width, components, lines, bytes) in &SEVERAL_COMPONENTS {
         let params = Params::new(8, maxval, 0, 0, 0, 0)?;
         let given = Lines {
             width,
@@ -173,24 +177,45 @@ fn several_components(rt: HostRuntime) -> Result<(), Fail> {
     Ok(())
 }
 
+/// Where the first line of each front ends, and where the second one does.
+const FIRST: BitPlace = BitPlace { bytes: 1, bits: 0 };
+
+const SECOND: BitPlace = BitPlace { bytes: 1, bits: 6 };
+
+/// Whether a front has these bytes, and its lines end there.
+fn is_front(front: &Front, bytes: &[u8], ends: &[BitPlace]) -> bool {
+    front.bytes.as_slice() == bytes && front.ends.as_slice() == ends
+}
+
 #[test]
-fn fronts(rt: HostRuntime) -> Result<(), Fail> {
-    let alloc = rt.alloc();
+fn fronts_of_whole_rows(rt: HostRuntime) -> Result<(), Fail> {
     let params = Params::new(8, 0, 0, 0, 0, 0)?;
     let line = [0, 0, 5];
-    let two = encode_front(alloc, &params, 3, 1, &[&line, &line])?;
-    assert!(rt; two.bytes.as_slice() == [0xc5].as_slice());
-    let first = BitPlace { bytes: 1, bits: 0 };
-    let second = BitPlace { bytes: 1, bits: 6 };
-    assert!(rt; two.ends.as_slice() == [first, second].as_slice());
-    let run = encode_front(alloc, &params, 12, 1, &[&[0; 12]])?;
-    assert!(rt; run.bytes.as_slice() == [0xff].as_slice());
-    assert!(rt; run.ends.as_slice() == [first].as_slice());
-    let inside_a_row = encode_front(alloc, &params, 1, 2, &[&[10]])?;
-    assert!(rt; inside_a_row.bytes.as_slice() == [0x07].as_slice());
-    assert!(rt; inside_a_row.ends.as_slice() == [first].as_slice());
-    let none = encode_front(alloc, &params, 3, 1, &[])?;
-    assert!(rt; none.bytes.is_empty());
-    assert!(rt; none.ends.is_empty());
+    let two = encode_front(rt.alloc(), &params, 3, 1, &[&line, &line])?;
+    assert!(rt; is_front(&two, &[0xC5], &[FIRST, SECOND]));
+    Ok(())
+}
+
+#[test]
+fn fronts_of_a_run(rt: HostRuntime) -> Result<(), Fail> {
+    let params = Params::new(8, 0, 0, 0, 0, 0)?;
+    let run = encode_front(rt.alloc(), &params, 12, 1, &[&[0; 12]])?;
+    assert!(rt; is_front(&run, &[0xFF], &[FIRST]));
+    Ok(())
+}
+
+#[test]
+fn fronts_inside_a_row(rt: HostRuntime) -> Result<(), Fail> {
+    let params = Params::new(8, 0, 0, 0, 0, 0)?;
+    let inside_a_row = encode_front(rt.alloc(), &params, 1, 2, &[&[10]])?;
+    assert!(rt; is_front(&inside_a_row, &[0x07], &[FIRST]));
+    Ok(())
+}
+
+#[test]
+fn fronts_of_no_line(rt: HostRuntime) -> Result<(), Fail> {
+    let params = Params::new(8, 0, 0, 0, 0, 0)?;
+    let none = encode_front(rt.alloc(), &params, 3, 1, &[])?;
+    assert!(rt; is_front(&none, &[], &[]));
     Ok(())
 }

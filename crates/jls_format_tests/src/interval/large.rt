@@ -72,7 +72,8 @@ fn come_back(alloc: Global, size: &Size, lines: &[Vec<u16>]) -> Result<bool, Fai
 fn clones_give(mut clone: IntervalDecoder, bytes: &[u8], lines: &[Vec<u16>]) -> Result<bool, Fail> {
     clone.push_all(bytes)?;
     let again = clone.try_clone()?;
-    Ok(gives(clone, &[], lines)? && gives(again, &[], lines)?)
+    let of_clone = gives(clone, &[], lines)?;
+    Ok(gives(again, &[], lines)? && of_clone)
 }
 
 /// Whether a decoder and clones of it that were made on the way give the lines, each in turn.
@@ -85,7 +86,7 @@ fn each_gives(alloc: Global, size: &Size, lines: &[Vec<u16>]) -> Result<bool, Fa
     let mut decoder = size.decoder(alloc, &params);
     push_in_slices(&mut decoder, first)?;
     let of_clones = clones_give(decoder.try_clone()?, rest, lines)?;
-    Ok(of_clones && gives(decoder, rest, lines)?)
+    Ok(gives(decoder, rest, lines)? && of_clones)
 }
 
 #[test]

@@ -24,21 +24,22 @@ fn whole_rows_fit(rt: HostRuntime) -> Result<(), Fail> {
     Ok(())
 }
 
+/// Width, components, and how many lines there are of these samples.
+const OTHERS: [(u16, u8, usize, &[u16]); 8] = [
+    (2, 0, 4, &[0, 255]),
+    (2, 3, 4, &[0, 255]),
+    (1, 1, 4, &[0, 255]),
+    (3, 1, 4, &[0, 255]),
+    (2, 1, 0, &[]),
+    (2, 5, 5, &[0, 255]),
+    (2, 1, 1, &[0, 256]),
+    (0, 1, 1, &[]),
+];
+
 #[test]
 fn other_lines_do_not_fit(rt: HostRuntime) -> Result<(), Fail> {
     let params = Params::new(8, 0, 0, 0, 0, 0)?;
-    // Width, components, and how many lines there are of these samples.
-    let rows: [(u16, u8, usize, &[u16]); 8] = [
-        (2, 0, 4, &[0, 255]),
-        (2, 3, 4, &[0, 255]),
-        (1, 1, 4, &[0, 255]),
-        (3, 1, 4, &[0, 255]),
-        (2, 1, 0, &[]),
-        (2, 5, 5, &[0, 255]),
-        (2, 1, 1, &[0, 256]),
-        (0, 1, 1, &[]),
-    ];
-    for (width, components, count, samples) in rows {
+    for &(width, components, count, samples) in &OTHERS {
         let lines = lines_of(rt.alloc(), count, samples)?;
         assert!(rt;
             !fits(&params, width, components, lines.as_slice()),
