@@ -17,26 +17,29 @@ fn eight_bits(rt: &impl Abort, reset: u16) -> Result<Cells, ParamFault>
     Ok(Cells::new(&params))
 }
 
+/// Ra, Rb, Rc and Rd, and the cell of their regular mode, which is negated or not.
+const MODES: [([u16; 4], u16, bool); 12] = [
+    ([90, 0, 0, 0], 4, true),
+    ([68, 0, 0, 90], 320, false),
+    // The first gradient is 0 and the second decides: 9 * 2 - 3.
+    ([0, 1, 6, 1], 16, true),
+    ([100, 50, 75, 0], 364, true),
+    // Each threshold on both sides.
+    ([100, 100, 100, 102], 81, false),
+    ([100, 100, 100, 103], 162, false),
+    ([100, 100, 100, 106], 162, false),
+    ([100, 100, 100, 107], 243, false),
+    ([100, 100, 100, 120], 243, false),
+    ([100, 100, 100, 121], 324, false),
+    ([100, 100, 100, 80], 243, true),
+    ([100, 100, 100, 79], 324, true),
+];
+
 #[test]
 fn modes(rt: HostRuntime) -> Result<(), Fail> {
     let cells = eight_bits(&rt, 0)?;
     assert!(rt; cells.mode(0, 0, 0, 0) == Mode::Run);
-    for ([ra, rb, rc, rd], cell, negative) in [
-        ([90, 0, 0, 0], 4, true),
-        ([68, 0, 0, 90], 320, false),
-        // The first gradient is 0 and the second decides: 9 * 2 - 3.
-        ([0, 1, 6, 1], 16, true),
-        ([100, 50, 75, 0], 364, true),
-        // Each threshold on both sides.
-        ([100, 100, 100, 102], 81, false),
-        ([100, 100, 100, 103], 162, false),
-        ([100, 100, 100, 106], 162, false),
-        ([100, 100, 100, 107], 243, false),
-        ([100, 100, 100, 120], 243, false),
-        ([100, 100, 100, 121], 324, false),
-        ([100, 100, 100, 80], 243, true),
-        ([100, 100, 100, 79], 324, true),
-    ] {
+    for &([ra, rb, rc, rd], cell, negative) in &MODES {
         let mode = Mode::Regular { cell, negative };
         assert!(rt;
             cells.mode(ra, rb, rc, rd) == mode,
@@ -46,41 +49,50 @@ fn modes(rt: HostRuntime) -> Result<(), Fail> {
     Ok(())
 }
 
+/// Whether the cell is negated, Ra, Rb and Rc, and the prediction, where C is -1.
+const PREDICTIONS: [(bool, [u16; 3], u16); 7] = [
+    (false, [68, 0, 0], 67),
+    (true, [68, 0, 0], 69),
+    (false, [10, 20, 15], 14),
+    (false, [10, 20, 20], 9),
+    (false, [10, 20, 10], 19),
+    (false, [0, 0, 0], 0),
+    (true, [255, 255, 255], 255),
+];
+
+fn check_predictions(rt: &impl Abort, cells: &Cells) {
+    for &(negative, [ra, rb, rc], predicted) in &PREDICTIONS {
+        assert!(rt;
+            cells.predict(320, negative, ra, rb, rc) == predicted,
+            "at {ra} {rb} {rc}"
+        );
+    }
+}
+
 #[test]
 fn predictions_follow_the_correction(rt: HostRuntime) -> Result<(), Fail> {
     let mut cells = eight_bits(&rt, 0)?;
     assert!(rt; cells.regular_k(320) == 2);
     cells.update_regular(320, -18);
     assert!(rt; cells.regular_k(320) == 4);
-    // C is -1.
-    for (negative, [ra, rb, rc], predicted) in [
-        (false, [68, 0, 0], 67),
-        (true, [68, 0, 0], 69),
-        (false, [10, 20, 15], 14),
-        (false, [10, 20, 20], 9),
-        (false, [10, 20, 10], 19),
-        (false, [0, 0, 0], 0),
-        (true, [255, 255, 255], 255),
-    ] {
-        assert!(rt;
-            cells.predict(320, negative, ra, rb, rc) == predicted,
-            "at {ra} {rb} {rc}"
-        );
-    }
+    check_predictions(&rt, &cells);
     Ok(())
 }
+
+/// Differences, and the errors that they are modulo RANGE.
+const ERRORS: [(i32, i32); 6] = [
+    (255, -1),
+    (-255, 1),
+    (128, -128),
+    (127, 127),
+    (-128, -128),
+    (-129, 127),
+];
 
 #[test]
 fn errors_modulo_range(rt: HostRuntime) -> Result<(), Fail> {
     let cells = eight_bits(&rt, 0)?;
-    for (difference, error) in [
-        (255, -1),
-        (-255, 1),
-        (128, -128),
-        (127, 127),
-        (-128, -128),
-        (-129, 127),
-    ] {
+    for &(difference, error) in &ERRORS {
         assert!(rt; cells.reduce(difference) == error, "at {difference}");
     }
     assert!(rt; cells.restore(250, false, 10) == 4);

@@ -38,43 +38,49 @@ fn first_other(headers: &mut Headers, rows: &[Row<'_>]) -> Option<usize> {
     None
 }
 
+/// Segments of a small picture, one after the other.
+const IN_ORDER: [Row<'static>; 11] = [
+    (0xDA, &SCAN, 4),
+    (0xDA, &[1, 1, 0, 1, 0, 0], 6),
+    (0xF8, &TWELVE_BITS, 0),
+    (0xF7, &SMALL, 0),
+    (0xF7, &SMALL, 5),
+    (0xDA, &[1, 2, 0, 0, 0, 0], 10),
+    (0xDA, &SCAN, 12),
+    (0xF8, &DEFAULTS, 0),
+    (0xDA, &SCAN, 0),
+    (0xE0, &[], 0),
+    (0xC9, &[], 14),
+];
+
 #[test]
 fn segments_are_taken_in_order(rt: HostRuntime) {
     let mut headers = Headers::new();
-    let rows: [Row<'_>; 11] = [
-        (0xDA, &SCAN, 4),
-        (0xDA, &[1, 1, 0, 1, 0, 0], 6),
-        (0xF8, &TWELVE_BITS, 0),
-        (0xF7, &SMALL, 0),
-        (0xF7, &SMALL, 5),
-        (0xDA, &[1, 2, 0, 0, 0, 0], 10),
-        (0xDA, &SCAN, 12),
-        (0xF8, &DEFAULTS, 0),
-        (0xDA, &SCAN, 0),
-        (0xE0, &[], 0),
-        (0xC9, &[], 14),
-    ];
-    assert_eq!(rt; first_other(&mut headers, &rows), None);
+    assert_eq!(rt; first_other(&mut headers, &IN_ORDER), None);
     assert!(rt; headers.scans() == 1);
     assert_eq!(rt; headers.shape().map(|shape| shape.height()), Some(10));
 }
 
+/// Segments of a large picture, which stand before sixteen scans, and after them.
+const BEFORE_SCANS: [Row<'static>; 6] = [
+    (0xF7, &LARGE, 0),
+    (0xF8, &TWELVE_BITS, 0),
+    (0xDA, &SCAN, 12),
+    (0xF8, &DEFAULTS, 0),
+    (0xDA, &SCAN, 15),
+    (0xDD, &[0x10, 0], 0),
+];
+
+const SIXTEEN_SCANS: [Row<'static>; 16] = [(0xDA, &SCAN, 0); 16];
+
+const AFTER_SCANS: [Row<'static>; 3] = [(0xDA, &SCAN, 16), (0xDD, &[0, 0], 0), (0xDA, &SCAN, 15)];
+
 #[test]
 fn scans_and_their_intervals_are_counted(rt: HostRuntime) {
     let mut headers = Headers::new();
-    let rows: [Row<'_>; 6] = [
-        (0xF7, &LARGE, 0),
-        (0xF8, &TWELVE_BITS, 0),
-        (0xDA, &SCAN, 12),
-        (0xF8, &DEFAULTS, 0),
-        (0xDA, &SCAN, 15),
-        (0xDD, &[0x10, 0], 0),
-    ];
-    assert_eq!(rt; first_other(&mut headers, &rows), None);
-    let sixteen: [Row<'_>; 16] = [(0xDA, &SCAN, 0); 16];
-    assert_eq!(rt; first_other(&mut headers, &sixteen), None);
-    let following: [Row<'_>; 3] = [(0xDA, &SCAN, 16), (0xDD, &[0, 0], 0), (0xDA, &SCAN, 15)];
-    assert_eq!(rt; first_other(&mut headers, &following), None);
+    assert_eq!(rt; first_other(&mut headers, &BEFORE_SCANS), None);
+    assert_eq!(rt; first_other(&mut headers, &SIXTEEN_SCANS), None);
+    assert_eq!(rt; first_other(&mut headers, &AFTER_SCANS), None);
     assert!(rt; headers.scans() == 16);
 }
 
@@ -93,16 +99,18 @@ fn plan(width: u16, height: u16, restart_interval: u32) -> Result<ScanPlan, Fail
     Ok(plan.ok_or("no scan")?)
 }
 
+/// Restart intervals of a picture of ten lines, and the rows of its intervals.
+const ROWS: [(u32, &[(u16, u16)]); 5] = [
+    (0, &[(0, 10)]),
+    (4, &[(0, 4), (4, 4), (8, 2)]),
+    (5, &[(0, 5), (5, 5)]),
+    (10, &[(0, 10)]),
+    (4294967295, &[(0, 10)]),
+];
+
 #[test]
 fn intervals_have_their_rows(rt: HostRuntime) -> Result<(), Fail> {
-    let rows: [(u32, &[(u16, u16)]); 5] = [
-        (0, &[(0, 10)]),
-        (4, &[(0, 4), (4, 4), (8, 2)]),
-        (5, &[(0, 5), (5, 5)]),
-        (10, &[(0, 10)]),
-        (4294967295, &[(0, 10)]),
-    ];
-    for (restart_interval, want) in rows {
+    for &(restart_interval, want) in &ROWS {
         let plan = plan(3, 10, restart_interval)?;
         assert!(rt; are_rows(&plan, want), "{want:?}");
         assert!(rt; plan.components() == [0].as_slice());

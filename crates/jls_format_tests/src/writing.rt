@@ -16,17 +16,19 @@ fn bytes_of(alloc: Global, segment: &Segment) -> Result<Vec<u8>, AllocError>
     Ok(bytes)
 }
 
+/// Restart intervals, and the segments that set them.
+const RESTART_INTERVALS: [(u32, &[u8]); 6] = [
+    (1, &[0xFF, 0xDD, 0, 4, 0, 1]),
+    (65535, &[0xFF, 0xDD, 0, 4, 0xFF, 0xFF]),
+    (65536, &[0xFF, 0xDD, 0, 5, 1, 0, 0]),
+    (16777215, &[0xFF, 0xDD, 0, 5, 0xFF, 0xFF, 0xFF]),
+    (16777216, &[0xFF, 0xDD, 0, 6, 1, 0, 0, 0]),
+    (4294967295, &[0xFF, 0xDD, 0, 6, 0xFF, 0xFF, 0xFF, 0xFF]),
+];
+
 #[test]
 fn restart_intervals_take_the_fewest_bytes(rt: HostRuntime) -> Result<(), Fail> {
-    let rows: [(u32, &[u8]); 6] = [
-        (1, &[0xFF, 0xDD, 0, 4, 0, 1]),
-        (65535, &[0xFF, 0xDD, 0, 4, 0xFF, 0xFF]),
-        (65536, &[0xFF, 0xDD, 0, 5, 1, 0, 0]),
-        (16777215, &[0xFF, 0xDD, 0, 5, 0xFF, 0xFF, 0xFF]),
-        (16777216, &[0xFF, 0xDD, 0, 6, 1, 0, 0, 0]),
-        (4294967295, &[0xFF, 0xDD, 0, 6, 0xFF, 0xFF, 0xFF, 0xFF]),
-    ];
-    for (rows, want) in rows {
+    for &(rows, want) in &RESTART_INTERVALS {
         let bytes = bytes_of(rt.alloc(), &Segment::Restart(rows))?;
         assert!(rt; bytes.as_slice() == want, "{rows}");
     }
@@ -70,16 +72,27 @@ fn charls_writes_one_component_alike(rt: HostRuntime) -> Result<(), Fail> {
     Ok(())
 }
 
+/// Whether a segment is written with this payload, which is read as the segment.
+fn has_payload(
+    alloc: Global,
+    segment: &Segment,
+    code: u8,
+    payload: &[u8],
+) -> Result<bool, AllocError>
+    requires { written.CanBeWritten segment.now }
+{
+    let bytes = bytes_of(alloc, segment)?;
+    Ok(bytes.get(4..) == Some(payload) && read_segment(code, payload).as_ref() == Ok(segment))
+}
+
 #[test]
 fn charls_writes_three_components_alike(rt: HostRuntime) -> Result<(), Fail> {
     let frame = Segment::Frame(Shape::new(8, 2, 2, &[1, 2, 3])?);
-    let scan = Segment::Scan(ScanHead::new(&[1, 2, 3], true)?);
     let frame_payload = [8, 0, 2, 0, 2, 3, 1, 0x11, 0, 2, 0x11, 0, 3, 0x11, 0];
+    assert!(rt; has_payload(rt.alloc(), &frame, 0xF7, &frame_payload)?);
+    let scan = Segment::Scan(ScanHead::new(&[1, 2, 3], true)?);
     let scan_payload = [3, 1, 0, 2, 0, 3, 0, 0, 1, 0];
-    assert!(rt; bytes_of(rt.alloc(), &frame)?.get(4..) == Some(frame_payload.as_slice()));
-    assert!(rt; bytes_of(rt.alloc(), &scan)?.get(4..) == Some(scan_payload.as_slice()));
-    assert!(rt; read_segment(0xF7, &frame_payload) == Ok(frame));
-    assert!(rt; read_segment(0xDA, &scan_payload) == Ok(scan));
+    assert!(rt; has_payload(rt.alloc(), &scan, 0xDA, &scan_payload)?);
     Ok(())
 }
 

@@ -14,19 +14,21 @@ fn a_shape_keeps_its_values(rt: HostRuntime) -> Result<(), Fail> {
     Ok(())
 }
 
+/// Precision, width, height and identifiers, and the fault of the shape.
+const SHAPES: [(u8, u16, u16, &[u8], Option<ShapeFault>); 8] = [
+    (1, 0, 0, &[], Some(ShapeFault::Precision)),
+    (17, 0, 0, &[], Some(ShapeFault::Precision)),
+    (2, 0, 0, &[], Some(ShapeFault::Width)),
+    (16, 1, 0, &[], Some(ShapeFault::Height)),
+    (16, 1, 1, &[], Some(ShapeFault::Count)),
+    (16, 1, 1, &[7, 7, 7, 7, 7], Some(ShapeFault::Count)),
+    (16, 1, 1, &[7, 1, 7], Some(ShapeFault::RepeatedId)),
+    (16, 1, 1, &[7, 1, 0], None),
+];
+
 #[test]
 fn shapes_are_refused_in_order(rt: HostRuntime) {
-    let table: [(u8, u16, u16, &[u8], Option<ShapeFault>); 8] = [
-        (1, 0, 0, &[], Some(ShapeFault::Precision)),
-        (17, 0, 0, &[], Some(ShapeFault::Precision)),
-        (2, 0, 0, &[], Some(ShapeFault::Width)),
-        (16, 1, 0, &[], Some(ShapeFault::Height)),
-        (16, 1, 1, &[], Some(ShapeFault::Count)),
-        (16, 1, 1, &[7, 7, 7, 7, 7], Some(ShapeFault::Count)),
-        (16, 1, 1, &[7, 1, 7], Some(ShapeFault::RepeatedId)),
-        (16, 1, 1, &[7, 1, 0], None),
-    ];
-    for (precision, width, height, ids, fault) in table {
+    for &(precision, width, height, ids, fault) in &SHAPES {
         assert!(rt;
             Shape::new(precision, width, height, ids).err() == fault,
             "{fault:?}"
