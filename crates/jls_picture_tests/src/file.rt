@@ -1,5 +1,7 @@
 //! Small pictures and their files, worked out by hand.
 
+ghost use Rattle.jls_write.specs.Options.{OptionsFit};
+
 use crate::limited::Limited;
 use crate::lines::{Lines, settled};
 use jls_io::Counted;
@@ -39,40 +41,78 @@ struct Row<'a> {
     file: &'a [u8],
 }
 
+/// Whether the parts of the file that a picture is written as into memory are these bytes.
+fn has_parts(
+    alloc: Global,
+    picture: &Picture<'_>,
+    options: &Options,
+    file: &[u8],
+) -> Result<bool, Fail>
+    requires { OptionsFit picture.now options.now }
+{
+    let FileParts { front, back } = jls_file(alloc, picture, options)?;
+    Ok(file.starts_with(&front) && file.ends_with(&back) && file.len() == front.len() + back.len())
+}
+
+/// Whether a sink gets as many bytes of the file as it takes in all, and its failure is reported.
+fn is_written(
+    alloc: Global,
+    picture: &Picture<'_>,
+    options: &Options,
+    file: &[u8],
+    mut sink: Limited,
+) -> bool
+    requires { OptionsFit picture.now options.now }
+{
+    let result = write_jls(alloc, picture, options, &mut Counted::new(&mut sink));
+    let wanted = if sink.limit == file.len() {
+        Ok(())
+    } else {
+        Err(OutputFault::Write(sink.limit as u64))
+    };
+    result == wanted && file.get(..sink.limit) == Some(sink.held.as_slice())
+}
+
 /// The picture is written as the file, also into memory; a write that fails after n bytes is reported, for each n.
-fn check(rt: &impl Abort, alloc: Global, row: &Row<'_>) -> Result<(), Fail> {
-    let partial = settled(alloc, &row.lines)?;
-    let picture = Picture::of(&partial).expect(rt, "a line is not settled");
+fn check_picture(
+    rt: &impl Abort,
+    alloc: Global,
+    picture: &Picture<'_>,
+    row: &Row<'_>,
+) -> Result<(), Fail> {
     let options = Options::new(
         row.how.line,
         row.how.ri,
         Params::new(8, row.how.maxval, 0, 0, 0, 0)?,
     );
-    assert!(rt; options.fits(&picture));
-    let FileParts { front, back } = jls_file(alloc, &picture, &options)?;
-    assert!(rt; row.file.starts_with(&front) && row.file.ends_with(&back));
-    assert!(rt; row.file.len() == front.len() + back.len());
+    assert!(rt; options.fits(picture));
+    assert!(rt;
+        has_parts(alloc, picture, &options, row.file)?,
+        "{:?}",
+        row.file
+    );
     for most in [1, usize::MAX] {
         for n in 0..=row.file.len() {
-            let mut sink = Limited {
-                held: Vec::new(alloc),
-                most,
-                limit: n,
-            };
-            let result = write_jls(alloc, &picture, &options, &mut Counted::new(&mut sink));
-            let wanted = if n == row.file.len() {
-                Ok(())
-            } else {
-                Err(OutputFault::Write(n as u64))
-            };
             assert!(rt;
-                result == wanted && sink.held.as_slice() == &row.file[..n],
+                is_written(
+                    alloc,
+                    picture,
+                    &options,
+                    row.file,
+                    Limited::new(alloc, most, n)
+                ),
                 "{n} bytes of {:?}",
                 row.file
             );
         }
     }
     Ok(())
+}
+
+fn check(rt: &impl Abort, alloc: Global, row: &Row<'_>) -> Result<(), Fail> {
+    let partial = settled(alloc, &row.lines)?;
+    let picture = Picture::of(&partial).expect(rt, "a line is not settled");
+    check_picture(rt, alloc, &picture, row)
 }
 
 /// One sample; four lines; two components in one scan and in two; two with two rows, row by row; three in one scan; a restart interval

@@ -1,5 +1,6 @@
 //! A writer that stops after so many bytes.
 
+use std::alloc::Global;
 use std::io;
 use std::io::Write;
 
@@ -9,6 +10,17 @@ pub struct Limited {
     pub held: Vec<u8>,
     pub most: usize,
     pub limit: usize,
+}
+
+impl Limited {
+    /// A writer that has taken nothing yet.
+    pub fn new(alloc: Global, most: usize, limit: usize) -> Limited {
+        Limited {
+            held: Vec::new(alloc),
+            most,
+            limit,
+        }
+    }
 }
 
 impl Write for Limited {

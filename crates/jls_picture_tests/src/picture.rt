@@ -10,40 +10,33 @@ use std::alloc::Global;
 use std::process::Abort;
 use std::test::Fail;
 
-/// What a sink gets that takes so many bytes in a call and so many in all.
-fn written(
-    alloc: Global,
-    picture: &Picture<'_>,
-    most: usize,
-    limit: usize,
-) -> (Result<(), OutputFault>, Vec<u8>) {
-    let mut sink = Limited {
-        held: Vec::new(alloc),
-        most,
-        limit,
-    };
+/// Whether a sink gets as many bytes of the file as it takes in all, and its failure is reported.
+fn is_written(picture: &Picture<'_>, file: &[u8], mut sink: Limited) -> bool {
     let result = write_pnm(picture, &mut Counted::new(&mut sink));
-    (result, sink.held)
+    let wanted = if sink.limit == file.len() {
+        Ok(())
+    } else {
+        Err(OutputFault::Write(sink.limit as u64))
+    };
+    result == wanted && file.get(..sink.limit) == Some(sink.held.as_slice())
 }
 
-/// The lines are written as this file, and a write that fails after n bytes is reported, for each n.
-fn check(rt: &impl Abort, alloc: Global, lines: &Lines<'_>, file: &[u8]) -> Result<(), Fail> {
-    let partial = settled(alloc, lines)?;
-    let picture = Picture::of(&partial).expect(rt, "a line is not settled");
+/// The picture is written as this file, and a write that fails after n bytes is reported, for each n.
+fn check_picture(rt: &impl Abort, alloc: Global, picture: &Picture<'_>, file: &[u8]) {
     for most in [1, 7, usize::MAX] {
         for n in 0..=file.len() {
-            let (result, bytes) = written(alloc, &picture, most, n);
-            let wanted = if n == file.len() {
-                Ok(())
-            } else {
-                Err(OutputFault::Write(n as u64))
-            };
             assert!(rt;
-                result == wanted && bytes.as_slice() == &file[..n],
+                is_written(picture, file, Limited::new(alloc, most, n)),
                 "{n} bytes of {file:?}"
             );
         }
     }
+}
+
+fn check(rt: &impl Abort, alloc: Global, lines: &Lines<'_>, file: &[u8]) -> Result<(), Fail> {
+    let partial = settled(alloc, lines)?;
+    let picture = Picture::of(&partial).expect(rt, "a line is not settled");
+    check_picture(rt, alloc, &picture, file);
     Ok(())
 }
 
@@ -122,15 +115,50 @@ fn files(rt: HostRuntime) -> Result<(), Fail> {
     Ok(())
 }
 
-#[test]
-fn names_the_first_line_that_is_not_settled(rt: HostRuntime) -> Result<(), Fail> {
-    let mut partial = Partial::empty(rt.alloc(), Shape::new(8, 1, 10, &[1, 2])?);
+/// A picture of two components of ten lines, of which those of the first were read as their own number.
+fn first_settled(alloc: Global) -> Result<Partial, Fail> {
+    let mut partial = Partial::empty(alloc, Shape::new(8, 1, 10, &[1, 2])?);
     for line in 0..10 {
         partial.insert(0, line, &[line])?;
     }
-    assert!(rt; matches!(Picture::of(&partial), Err(PictureFault::Unsettled(1, 0))));
+    Ok(partial)
+}
+
+/// Whether this is the first line that is not settled.
+fn is_unsettled_at(partial: &Partial, component: u8, line: u16) -> bool {
+    match Picture::of(partial) {
+        Err(PictureFault::Unsettled(first, at)) => first == component && at == line,
+        _ => false,
+    }
+}
+
+#[test]
+fn names_the_first_line_that_is_not_settled(rt: HostRuntime) -> Result<(), Fail> {
+    let mut partial = first_settled(rt.alloc())?;
+    assert!(rt; is_unsettled_at(&partial, 1, 0));
     partial.insert(0, 6, &[8])?;
-    assert!(rt; matches!(Picture::of(&partial), Err(PictureFault::Unsettled(0, 6))));
+    assert!(rt; is_unsettled_at(&partial, 0, 6));
+    Ok(())
+}
+
+/// Precision and MAXVAL, and whether options with them fit a picture of 8 bits and of the sample 15.
+const FITTING: [(u8, u16, bool); 4] = [
+    (8, 0, true),
+    (8, 15, true),
+    (8, 14, false),
+    (9, 255, false),
+];
+
+fn check_fitting(rt: &impl Abort, picture: &Picture<'_>) -> Result<(), Fail> {
+    for &(precision, maxval, fits) in &FITTING {
+        let params = Params::new(precision, maxval, 0, 0, 0, 0)?;
+        for (line, ri) in [(false, 0), (true, 1), (true, 65535)] {
+            assert!(rt;
+                Options::new(line, ri, params).fits(picture) == fits,
+                "{precision} {maxval}"
+            );
+        }
+    }
     Ok(())
 }
 
@@ -139,19 +167,5 @@ fn fits(rt: HostRuntime) -> Result<(), Fail> {
     let mut partial = Partial::empty(rt.alloc(), Shape::new(8, 1, 1, &[1])?);
     partial.insert(0, 0, &[15])?;
     let picture = Picture::of(&partial).expect(&rt, "a line is not settled");
-    for (precision, maxval, fits) in [
-        (8, 0, true),
-        (8, 15, true),
-        (8, 14, false),
-        (9, 255, false),
-    ] {
-        let params = Params::new(precision, maxval, 0, 0, 0, 0)?;
-        for (line, ri) in [(false, 0), (true, 1), (true, 65535)] {
-            assert!(rt;
-                Options::new(line, ri, params).fits(&picture) == fits,
-                "{precision} {maxval}"
-            );
-        }
-    }
-    Ok(())
+    check_fitting(&rt, &picture)
 }

@@ -4,6 +4,7 @@ use jls_partial::Partial;
 use jls_report::{Report, ReportEntry};
 use jls_values::Shape;
 use std::alloc::Global;
+use std::process::Abort;
 use std::test::Fail;
 
 /// The partial picture with these readings, each a component, a line and its one sample of 8 bits.
@@ -62,18 +63,23 @@ const OF_TEN_LINES: [(&[u16], &[u16], &str); 5] = [
     ),
 ];
 
+/// The readings of these lines.
+fn readings_of(alloc: Global, own: &[u16], eight: &[u16]) -> Result<Vec<(u8, u16, u16)>, Fail> {
+    let mut readings = Vec::new(alloc);
+    for line in own {
+        readings.push((0, *line, *line))?;
+    }
+    for line in eight {
+        readings.push((0, *line, 8))?;
+    }
+    Ok(readings)
+}
+
 #[test]
 fn texts_of_ten_lines(rt: HostRuntime) -> Result<(), Fail> {
-    let alloc = rt.alloc();
-    for (own, eight, text) in OF_TEN_LINES {
-        let mut readings = Vec::new(alloc);
-        for line in own {
-            readings.push((0, *line, *line))?;
-        }
-        for line in eight {
-            readings.push((0, *line, 8))?;
-        }
-        assert!(rt; reports(alloc, 10, &[1], &readings, text)?, "{text}");
+    for &(own, eight, text) in &OF_TEN_LINES {
+        let readings = readings_of(rt.alloc(), own, eight)?;
+        assert!(rt; reports(rt.alloc(), 10, &[1], &readings, text)?, "{text}");
     }
     Ok(())
 }
@@ -110,31 +116,36 @@ missing 1 0-0\ndisputed 1 1 3\nmissing 1 2-2\n",
 /// Pictures of one line, and of two components: a range ends with its component, and components are named by their identifiers.
 #[test]
 fn texts(rt: HostRuntime) -> Result<(), Fail> {
-    for (height, ids, readings, text) in REPORTS {
+    for &(height, ids, readings, text) in &REPORTS {
         assert!(rt; reports(rt.alloc(), height, ids, readings, text)?, "{text}");
     }
     Ok(())
 }
 
+/// The entries of a picture of four lines, of which one is settled.
+const ENTRIES: [ReportEntry; 2] = [
+    ReportEntry::Missing {
+        component: 0,
+        first: 0,
+        last: 1,
+    },
+    ReportEntry::Disputed {
+        component: 0,
+        line: 2,
+        readings: 2,
+    },
+];
+
+fn check_report(rt: &impl Abort, report: &Report, shape: &Shape) {
+    assert!(rt; report.entries() == ENTRIES.as_slice());
+    assert!(rt; report.settled() == 1 && report.missing() == 2 && report.disputed() == 1);
+    assert!(rt; *report.shape() == *shape);
+}
+
 #[test]
 fn as_a_value(rt: HostRuntime) -> Result<(), Fail> {
-    let alloc = rt.alloc();
-    let partial = partial_of(alloc, 4, &[5], &[(0, 2, 1), (0, 2, 2), (0, 3, 0)])?;
-    let report = Report::of(alloc, &partial)?;
-    let entries = [
-        ReportEntry::Missing {
-            component: 0,
-            first: 0,
-            last: 1,
-        },
-        ReportEntry::Disputed {
-            component: 0,
-            line: 2,
-            readings: 2,
-        },
-    ];
-    assert!(rt; report.entries() == entries.as_slice());
-    assert!(rt; report.settled() == 1 && report.missing() == 2 && report.disputed() == 1);
-    assert!(rt; *report.shape() == *partial.shape());
+    let partial = partial_of(rt.alloc(), 4, &[5], &[(0, 2, 1), (0, 2, 2), (0, 3, 0)])?;
+    let report = Report::of(rt.alloc(), &partial)?;
+    check_report(&rt, &report, partial.shape());
     Ok(())
 }
