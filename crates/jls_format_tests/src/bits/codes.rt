@@ -55,15 +55,18 @@ fn is_code(alloc: Global, text: &str, mapped: u32, code: Code) -> Result<bool, A
     )
 }
 
+/// Codes at k 2, and their numbers.
+const CODES: [(&str, u32); 5] = [
+    ("00000000100", 32),
+    ("0000000000000000000000111", 91),
+    ("00000000000000000000000101011011", 92),
+    ("00000000000000000000000101011101", 94),
+    ("00000000000000000000000111111111", 256),
+];
+
 #[test]
 fn numbers_have_their_codes(rt: HostRuntime) -> Result<(), Fail> {
-    for (text, mapped) in [
-        ("00000000100", 32u32),
-        ("0000000000000000000000111", 91),
-        ("00000000000000000000000101011011", 92),
-        ("00000000000000000000000101011101", 94),
-        ("00000000000000000000000111111111", 256),
-    ] {
+    for &(text, mapped) in &CODES {
         assert!(rt;
             is_code(rt.alloc(), text, mapped.min(256), OF_K_2)?,
             "{mapped}"
@@ -88,28 +91,30 @@ fn codes_of_the_least_length(rt: HostRuntime) -> Result<(), Fail> {
     Ok(())
 }
 
+/// The bits, the number, k and g; qbpp is 16.
+const CODES_AT_ENDS: [(&str, u32, u8, u8); 7] = [
+    ("11111111111111111", 65535, 16, 64),
+    ("010000000000000000", 65536, 16, 64),
+    ("011111111111111111", 65536, 16, 18),
+    ("00000000000000000000000000000000000000000000001", 46, 0, 64),
+    (
+        "0000000000000000000000000000000000000000000000010000000000101110",
+        47,
+        0,
+        64,
+    ),
+    (
+        "0000000000000000000000000000000000000000000000011111111111111111",
+        65536,
+        0,
+        64,
+    ),
+    ("010000000000000000", 1, 0, 18),
+];
+
 #[test]
 fn codes_at_the_ends_of_k_and_g(rt: HostRuntime) -> Result<(), Fail> {
-    // The bits, the number, k and g; qbpp is 16.
-    for (text, mapped, k, g) in [
-        ("11111111111111111", 65535u32, 16u8, 64u8),
-        ("010000000000000000", 65536, 16, 64),
-        ("011111111111111111", 65536, 16, 18),
-        ("00000000000000000000000000000000000000000000001", 46, 0, 64),
-        (
-            "0000000000000000000000000000000000000000000000010000000000101110",
-            47,
-            0,
-            64,
-        ),
-        (
-            "0000000000000000000000000000000000000000000000011111111111111111",
-            65536,
-            0,
-            64,
-        ),
-        ("010000000000000000", 1, 0, 18),
-    ] {
+    for &(text, mapped, k, g) in &CODES_AT_ENDS {
         let code = Code {
             k: k.min(16),
             g: g.max(18).min(64),
@@ -164,19 +169,21 @@ fn a_code_that_is_cut_is_none(rt: HostRuntime) -> Result<(), Fail> {
     Ok(())
 }
 
+/// Bits, their k, and the number that is read from them and how many bits are left then.
+const NO_CODES: [(&[u8], u8, Option<u32>, u128); 4] = [
+    // An escape for 91, which has a short code.
+    (b"00000000000000000000000101011010", 2, None, 32),
+    // One zero more than announces an escape.
+    (b"000000000000000000000000101011101", 2, None, 33),
+    // All 256 numbers of an escape have a short code at k 4.
+    (b"00000000000000000000000111111110", 4, None, 32),
+    // A quotient of 1 at k 16: more than 2^qbpp.
+    (b"010000000000000001", 16, Some(65537), 0),
+];
+
 #[test]
 fn a_reader_stays_where_no_code_stands(rt: HostRuntime) -> Result<(), Fail> {
-    let rows: [(&[u8], u8, Option<u32>, u128); 4] = [
-        // An escape for 91, which has a short code.
-        (b"00000000000000000000000101011010", 2, None, 32),
-        // One zero more than announces an escape.
-        (b"000000000000000000000000101011101", 2, None, 33),
-        // All 256 numbers of an escape have a short code at k 4.
-        (b"00000000000000000000000111111110", 4, None, 32),
-        // A quotient of 1 at k 16: more than 2^qbpp.
-        (b"010000000000000001", 16, Some(65537), 0),
-    ];
-    for (bits, k, number, left) in rows {
+    for &(bits, k, number, left) in &NO_CODES {
         let code = Code {
             k: k.min(16),
             g: 32,
@@ -205,21 +212,23 @@ fn reported(bits: &[u8], code: Code) -> (GolombReader, usize, GolombStep)
     (reader, bits.len(), GolombStep::More)
 }
 
+/// Bits, their k, how many are taken, and the last answer. At k 2 the least escape is 92; at k 4 there is none, since 256 has a short
+/// code.
+const DECIDED: [(&[u8], u8, usize, GolombStep); 9] = [
+    (b"0000000010", 2, 10, GolombStep::More),
+    (b"00000000100", 2, 11, GolombStep::Done(32)),
+    (b"00000000000000000000000", 2, 23, GolombStep::More),
+    (b"000000000000000000000000", 2, 24, GolombStep::Refused),
+    (b"0000000000000000000000010", 2, 25, GolombStep::More),
+    (b"00000000000000000000000100", 2, 26, GolombStep::Refused),
+    (b"0000000000000000000000", 4, 22, GolombStep::More),
+    (b"00000000000000000000000", 4, 23, GolombStep::Refused),
+    (b"1", 0, 1, GolombStep::Done(0)),
+];
+
 #[test]
 fn a_reader_answers_at_the_first_bit_that_decides(rt: HostRuntime) {
-    // At k 2 the least escape is 92; at k 4 there is none, since 256 has a short code.
-    let table: [(&[u8], u8, usize, GolombStep); 9] = [
-        (b"0000000010", 2, 10, GolombStep::More),
-        (b"00000000100", 2, 11, GolombStep::Done(32)),
-        (b"00000000000000000000000", 2, 23, GolombStep::More),
-        (b"000000000000000000000000", 2, 24, GolombStep::Refused),
-        (b"0000000000000000000000010", 2, 25, GolombStep::More),
-        (b"00000000000000000000000100", 2, 26, GolombStep::Refused),
-        (b"0000000000000000000000", 4, 22, GolombStep::More),
-        (b"00000000000000000000000", 4, 23, GolombStep::Refused),
-        (b"1", 0, 1, GolombStep::Done(0)),
-    ];
-    for (bits, k, count, step) in table {
+    for &(bits, k, count, step) in &DECIDED {
         let code = Code {
             k: k.min(16),
             g: 32,
@@ -230,20 +239,21 @@ fn a_reader_answers_at_the_first_bit_that_decides(rt: HostRuntime) {
     }
 }
 
+/// The bits so far, and the first and the last number that they allow: 32 to 35 have eight zeros, an escape that begins 0101 is a number
+/// from 81 to 96, of which 92 and more have no short code.
+const ALLOWED: [(&[u8], u32, u32); 7] = [
+    (b"", 0, 256),
+    (b"00000000", 32, 256),
+    (b"000000001", 32, 35),
+    (b"0000000010", 32, 33),
+    (b"00000000100", 32, 32),
+    (b"000000000000000000000001", 92, 256),
+    (b"0000000000000000000000010101", 92, 96),
+];
+
 #[test]
 fn a_cut_code_allows_the_numbers_whose_codes_it_begins(rt: HostRuntime) {
-    // The bits so far, and the first and the last number that they allow: 32 to 35 have eight zeros, an escape that
-    // begins 0101 is a number from 81 to 96, of which 92 and more have no short code.
-    let table: [(&[u8], u32, u32); 7] = [
-        (b"", 0, 256),
-        (b"00000000", 32, 256),
-        (b"000000001", 32, 35),
-        (b"0000000010", 32, 33),
-        (b"00000000100", 32, 32),
-        (b"000000000000000000000001", 92, 256),
-        (b"0000000000000000000000010101", 92, 96),
-    ];
-    for (bits, first, last) in table {
+    for &(bits, first, last) in &ALLOWED {
         let (reader, _, _) = reported(bits, OF_K_2);
         for number in 0..257 {
             let allowed = first <= number && number <= last;
@@ -285,25 +295,26 @@ fn a_chunk_gives_a_code_its_bits(rt: HostRuntime) {
     }
 }
 
+/// The bits, with k, LIMIT and qbpp; the number of the short code at the start, and how many bits are left. 33 is 8 times 4 and 1; at k 2
+/// and LIMIT 32 an escape has 23 zeros, so 91 is the last number with a short code.
+const SHORT_CODES: [(&[u8], (u8, u8, u8), Option<u32>, u8); 12] = [
+    (b"", (2, 32, 8), None, 0),
+    (b"00000000", (2, 32, 8), None, 8),
+    (b"000000001", (2, 32, 8), None, 9),
+    (b"0000000010", (2, 32, 8), None, 10),
+    (b"00000000101", (2, 32, 8), Some(33), 0),
+    (b"00000000101110", (2, 32, 8), Some(33), 3),
+    (b"0000000000000000000000111", (2, 32, 8), Some(91), 0),
+    (b"00000000000000000000000101011011", (2, 32, 8), None, 32),
+    (b"0010", (0, 32, 8), Some(2), 1),
+    (b"1111111111111111", (16, 64, 16), None, 16),
+    (b"11111111111111110", (16, 64, 16), Some(65534), 0),
+    (b"010000000000000000", (0, 18, 16), None, 18),
+];
+
 #[test]
 fn a_short_code_is_taken_where_it_stands_whole(rt: HostRuntime) {
-    // The bits, with k, LIMIT and qbpp; the number of the short code at the start, and how many bits are left. 33 is 8 times 4 and 1;
-    // at k 2 and LIMIT 32 an escape has 23 zeros, so 91 is the last number with a short code.
-    let table: [(&[u8], (u8, u8, u8), Option<u32>, u8); 12] = [
-        (b"", (2, 32, 8), None, 0),
-        (b"00000000", (2, 32, 8), None, 8),
-        (b"000000001", (2, 32, 8), None, 9),
-        (b"0000000010", (2, 32, 8), None, 10),
-        (b"00000000101", (2, 32, 8), Some(33), 0),
-        (b"00000000101110", (2, 32, 8), Some(33), 3),
-        (b"0000000000000000000000111", (2, 32, 8), Some(91), 0),
-        (b"00000000000000000000000101011011", (2, 32, 8), None, 32),
-        (b"0010", (0, 32, 8), Some(2), 1),
-        (b"1111111111111111", (16, 64, 16), None, 16),
-        (b"11111111111111110", (16, 64, 16), Some(65534), 0),
-        (b"010000000000000000", (0, 18, 16), None, 18),
-    ];
-    for (bits, (k, g, qbpp), number, left) in table {
+    for &(bits, (k, g, qbpp), number, left) in &SHORT_CODES {
         let (k, g, qbpp) = (k.min(16), g.max(18).min(64), qbpp.max(1).min(16));
         let mut chunk = chunk_of(bits);
         let taken = chunk.take_code(k, g, qbpp);

@@ -19,34 +19,40 @@ fn bits_text(alloc: Global, bytes: &[u8]) -> Result<Vec<u8>, AllocError> {
     Ok(text)
 }
 
+/// Bytes, their data bits as ones and zeros, and whether they are whole.
+const DATA_BITS: [(&[u8], &[u8], bool); 12] = [
+    (&[], b"", true),
+    (&[0x81], b"10000001", true),
+    (&[0xFF], b"11111111", true),
+    (&[0xFF, 0x7F], b"111111111111111", true),
+    (&[0xFF, 0x80, 0x00], b"11111111", false),
+    (&[0xFF, 0xFF], b"11111111", false),
+    (&[0xFF, 0x2A, 0x01], b"11111111010101000000001", true),
+    (&[0x2A, 0xFF, 0x01], b"00101010111111110000001", true),
+    (&[0x2A, 0x01, 0xFF], b"001010100000000111111111", true),
+    (
+        &[0xFF, 0x7F, 0xFF, 0x00],
+        b"111111111111111111111110000000",
+        true,
+    ),
+    (&[0x00, 0xFF, 0x90], b"0000000011111111", false),
+    (&[0xFE, 0x80, 0xFF], b"111111101000000011111111", true),
+];
+
+/// Whether these are all the data bits of the bytes, which are whole or not.
+fn have_bits(alloc: Global, bytes: &[u8], text: &[u8], whole: bool) -> Result<bool, AllocError> {
+    let reader = BitReader::over(bytes);
+    Ok(
+        reader.left() == text.len() as u128
+            && reader.is_whole() == whole
+            && bits_text(alloc, bytes)?.as_slice() == text,
+    )
+}
+
 #[test]
 fn bytes_give_their_data_bits(rt: HostRuntime) -> Result<(), Fail> {
-    let alloc = rt.alloc();
-    let table: [(&[u8], &[u8], bool); 12] = [
-        (&[], b"", true),
-        (&[0x81], b"10000001", true),
-        (&[0xFF], b"11111111", true),
-        (&[0xFF, 0x7F], b"111111111111111", true),
-        (&[0xFF, 0x80, 0x00], b"11111111", false),
-        (&[0xFF, 0xFF], b"11111111", false),
-        (&[0xFF, 0x2A, 0x01], b"11111111010101000000001", true),
-        (&[0x2A, 0xFF, 0x01], b"00101010111111110000001", true),
-        (&[0x2A, 0x01, 0xFF], b"001010100000000111111111", true),
-        (
-            &[0xFF, 0x7F, 0xFF, 0x00],
-            b"111111111111111111111110000000",
-            true,
-        ),
-        (&[0x00, 0xFF, 0x90], b"0000000011111111", false),
-        (&[0xFE, 0x80, 0xFF], b"111111101000000011111111", true),
-    ];
-    for (bytes, text, whole) in table {
-        let reader = BitReader::over(bytes);
-        assert!(rt;
-            reader.left() == text.len() as u128 && reader.is_whole() == whole,
-            "{bytes:?}"
-        );
-        assert!(rt; bits_text(alloc, bytes)?.as_slice() == text, "{bytes:?}");
+    for &(bytes, text, whole) in &DATA_BITS {
+        assert!(rt; have_bits(rt.alloc(), bytes, text, whole)?, "{bytes:?}");
     }
     Ok(())
 }
@@ -74,33 +80,37 @@ fn ones(alloc: Global, count: usize) -> Result<Vec<u8>, AllocError> {
     writer.finish()
 }
 
+/// How many ones are written, and the bytes.
+const PADDED: [(usize, &[u8]); 8] = [
+    (0, &[]),
+    (1, &[0x80]),
+    (7, &[0xFE]),
+    (8, &[0xFF, 0x00]),
+    (9, &[0xFF, 0x40]),
+    (15, &[0xFF, 0x7F]),
+    (16, &[0xFF, 0x7F, 0x80]),
+    (23, &[0xFF, 0x7F, 0xFF, 0x00]),
+];
+
 #[test]
 fn bits_are_padded_with_zeros(rt: HostRuntime) -> Result<(), Fail> {
-    let alloc = rt.alloc();
-    let table: [(usize, &[u8]); 8] = [
-        (0, &[]),
-        (1, &[0x80]),
-        (7, &[0xFE]),
-        (8, &[0xFF, 0x00]),
-        (9, &[0xFF, 0x40]),
-        (15, &[0xFF, 0x7F]),
-        (16, &[0xFF, 0x7F, 0x80]),
-        (23, &[0xFF, 0x7F, 0xFF, 0x00]),
-    ];
-    for (count, bytes) in table {
-        assert!(rt; ones(alloc, count)?.as_slice() == bytes, "{count} ones");
+    for &(count, bytes) in &PADDED {
+        assert!(rt;
+            ones(rt.alloc(), count)?.as_slice() == bytes,
+            "{count} ones"
+        );
     }
     Ok(())
 }
 
-/// What is written of one number alone.
-fn alone(alloc: Global, number: u32, count: u8) -> Result<Vec<u8>, AllocError>
+/// Whether one number alone is written as these bytes.
+fn is_alone(alloc: Global, number: u32, count: u8, bytes: &[u8]) -> Result<bool, AllocError>
     requires count { count ≤ 32 }
     requires number { number < 2 ^ count }
 {
     let mut writer = BitWriter::new(alloc);
     writer.push_bits(number, count)?;
-    writer.finish()
+    Ok(writer.finish()?.as_slice() == bytes)
 }
 
 /// What is written of a number after one of no bit.
@@ -124,10 +134,9 @@ fn several(alloc: Global) -> Result<Vec<u8>, AllocError> {
 #[test]
 fn numbers_are_pushed_with_their_top_bit_first(rt: HostRuntime) -> Result<(), Fail> {
     let alloc = rt.alloc();
-    assert!(rt; alone(alloc, 255, 8)?.as_slice() == [0xFF, 0x00].as_slice());
-    assert!(rt; alone(alloc, 0, 32)?.as_slice() == [0, 0, 0, 0].as_slice());
-    let ones = alone(alloc, 0xFFFF_FFFF, 32)?;
-    assert!(rt; ones.as_slice() == [0xFF, 0x7F, 0xFF, 0x7F, 0xC0].as_slice());
+    assert!(rt; is_alone(alloc, 255, 8, &[0xFF, 0x00])?);
+    assert!(rt; is_alone(alloc, 0, 32, &[0, 0, 0, 0])?);
+    assert!(rt; is_alone(alloc, 0xFFFF_FFFF, 32, &[0xFF, 0x7F, 0xFF, 0x7F, 0xC0])?);
     let ends = [0x80, 0x00, 0x00, 0x01];
     assert!(rt; after_nothing(alloc)?.as_slice() == ends.as_slice());
     assert!(rt; several(alloc)?.as_slice() == [0xAF, 0xFF, 0x78].as_slice());
