@@ -1,7 +1,7 @@
 //! Readers that are cloned inside of a copy.
 
 use crate::copies::{bytes_of, feed_piece, reported};
-use crate::known::COPIES;
+use crate::known::copies;
 use jls_copy::{CopyFault, CopyRead, CopyReader};
 use std::alloc::Global;
 use std::process::Abort;
@@ -20,6 +20,16 @@ fn read_on(mut reader: CopyReader, bytes: &[u8]) -> Result<CopyRead, CopyFault> 
     reader.finish()
 }
 
+/// What the second of two readers gives once the first was fed these bytes too, and then itself.
+fn read_on_both(
+    first: CopyReader,
+    second: CopyReader,
+    bytes: &[u8],
+) -> Result<CopyRead, CopyFault> {
+    let _ = read_on(first, bytes);
+    read_on(second, bytes)
+}
+
 /// What a reader that was fed the first bytes gives after the others, or what its clone does. Both are fed these, the other one first.
 fn read_of_pair(
     alloc: Global,
@@ -32,13 +42,11 @@ fn read_of_pair(
         Ok(clone) => clone,
         Err(_) => return Err(CopyFault::OutOfMemory),
     };
-    let (other, wanted) = if of_clone {
-        (reader, clone)
+    if of_clone {
+        read_on_both(reader, clone, back)
     } else {
-        (clone, reader)
-    };
-    let _ = read_on(other, back);
-    read_on(wanted, back)
+        read_on_both(clone, reader, back)
+    }
 }
 
 /// Makes sure that a copy gives this, by a reader that is cloned after its first bytes, and by its clone.
@@ -62,7 +70,7 @@ fn check_clone(
 
 #[test]
 fn clones_read_on_by_themselves(rt: HostRuntime) -> Result<(), Fail> {
-    for &(text, wanted) in &COPIES {
+    for &(text, wanted) in copies() {
         let bytes = bytes_of(rt.alloc(), text)?;
         for place in 0..=bytes.len() {
             check_clone(&rt, rt.alloc(), &bytes, place, wanted)?;

@@ -1,6 +1,6 @@
 //! Whole copies, read in slices of several sizes.
 
-use crate::known::{COPIES, FOUR_LINES, INTERVALS, LARGE_PICTURE, TEN_LINES};
+use crate::known::{FOUR_LINES, INTERVALS, LARGE_PICTURE, TEN_LINES, copies};
 use jls_copy::{CopyFault, CopyRead, CopyReader, End, PieceKind, PieceRecord};
 use std::alloc::Global;
 use std::fmt::Write;
@@ -43,16 +43,21 @@ fn feed_to_each_ff(reader: &mut CopyReader, bytes: &[u8]) -> Result<(), CopyFaul
     feed_piece(reader, &bytes[start..])
 }
 
+/// Feeds a copy in slices of this size.
+fn feed_in_pieces(reader: &mut CopyReader, bytes: &[u8], size: usize) -> Result<(), CopyFault> {
+    if size == 0 {
+        return feed_to_each_ff(reader, bytes);
+    }
+    for piece in bytes.chunks(size) {
+        feed_piece(reader, piece)?;
+    }
+    Ok(())
+}
+
 /// What a reader says of a copy that comes in slices of this size.
 fn read_in_pieces(alloc: Global, bytes: &[u8], size: usize) -> Result<CopyRead, CopyFault> {
     let mut reader = CopyReader::new(alloc);
-    if size == 0 {
-        feed_to_each_ff(&mut reader, bytes)?;
-        return reader.finish();
-    }
-    for piece in bytes.chunks(size) {
-        feed_piece(&mut reader, piece)?;
-    }
+    feed_in_pieces(&mut reader, bytes, size)?;
     reader.finish()
 }
 
@@ -73,15 +78,18 @@ fn put_line(out: &mut String, read: &CopyRead, component: u8, line: u16) -> Resu
     Ok(())
 }
 
-fn text_of(alloc: Global, read: &CopyRead) -> Result<String, Fail> {
-    let mut out = String::new(alloc);
+fn put_lines(out: &mut String, read: &CopyRead) -> Result<(), Fail> {
     let shape = read.partial().shape();
     for component in 0..shape.ids().len() as u8 {
         for line in 0..shape.height() {
-            put_line(&mut out, read, component, line)?;
+            put_line(out, read, component, line)?;
         }
     }
-    write!(out, "| ")?;
+    Ok(())
+}
+
+/// The records of the faulty pieces.
+fn put_pieces(out: &mut String, read: &CopyRead) -> Result<(), Fail> {
     for piece in read.pieces() {
         write!(
             out,
@@ -89,7 +97,20 @@ fn text_of(alloc: Global, read: &CopyRead) -> Result<String, Fail> {
             piece.scan, piece.interval, piece.offset, piece.kind
         )?;
     }
+    Ok(())
+}
+
+fn put_all(out: &mut String, read: &CopyRead) -> Result<(), Fail> {
+    put_lines(out, read)?;
+    write!(out, "| ")?;
+    put_pieces(out, read)?;
     write!(out, "{} {:?}", read.piece_count(), read.ended())?;
+    Ok(())
+}
+
+fn text_of(alloc: Global, read: &CopyRead) -> Result<String, Fail> {
+    let mut out = String::new(alloc);
+    put_all(&mut out, read)?;
     Ok(out)
 }
 
@@ -101,27 +122,37 @@ pub fn reported(alloc: Global, read: Result<CopyRead, CopyFault>) -> Result<Stri
     }
 }
 
+/// Whether a copy gives this, in slices of this size.
+fn gives(alloc: Global, bytes: &[u8], size: usize, wanted: &str) -> Result<bool, Fail> {
+    let read = reported(alloc, read_in_pieces(alloc, bytes, size))?;
+    Ok(read.as_str() == wanted)
+}
+
 /// Makes sure that a copy gives this, in slices of every size.
 pub fn check_copy(rt: &impl Abort, alloc: Global, bytes: &[u8], wanted: &str) -> Result<(), Fail> {
-    for size in SIZES {
-        let read = read_in_pieces(alloc, bytes, size);
+    for &size in &SIZES {
         assert!(rt;
-            reported(alloc, read)?.as_str() == wanted,
+            gives(alloc, bytes, size, wanted)?,
             "in slices of {size}: {wanted}"
         );
     }
     Ok(())
 }
 
-/// What a reader says of a copy that has 100,000 fill bytes between these parts.
-fn read_with_fill(alloc: Global, prefix: &[u8], back: &[u8]) -> Result<CopyRead, CopyFault> {
+/// Feeds a copy that has 100,000 fill bytes between these parts.
+fn feed_with_fill(reader: &mut CopyReader, prefix: &[u8], back: &[u8]) -> Result<(), CopyFault> {
     let fill = [0xFF; 1000];
-    let mut reader = CopyReader::new(alloc);
-    feed_piece(&mut reader, prefix)?;
+    feed_piece(reader, prefix)?;
     for _ in 0..100 {
-        feed_piece(&mut reader, &fill)?;
+        feed_piece(reader, &fill)?;
     }
-    feed_piece(&mut reader, back)?;
+    feed_piece(reader, back)
+}
+
+/// What a reader says of such a copy.
+fn read_with_fill(alloc: Global, prefix: &[u8], back: &[u8]) -> Result<CopyRead, CopyFault> {
+    let mut reader = CopyReader::new(alloc);
+    feed_with_fill(&mut reader, prefix, back)?;
     reader.finish()
 }
 
@@ -145,15 +176,18 @@ const FILLED: [(&str, usize, &str); 3] = [
     ),
 ];
 
+/// What a copy gives that has the fill after so many bytes.
+fn filled(alloc: Global, text: &str, count: usize) -> Result<String, Fail> {
+    let bytes = bytes_of(alloc, text)?;
+    let (prefix, back) = bytes.split_at(count.min(bytes.len()));
+    reported(alloc, read_with_fill(alloc, prefix, back))
+}
+
 #[test]
 fn many_fill_bytes(rt: HostRuntime) -> Result<(), Fail> {
-    let alloc = rt.alloc();
     for &(text, count, wanted) in &FILLED {
-        let bytes = bytes_of(alloc, text)?;
-        let (prefix, back) = bytes.split_at(count.min(bytes.len()));
-        let read = read_with_fill(alloc, prefix, back);
         assert!(rt;
-            reported(alloc, read)?.as_str() == wanted,
+            filled(rt.alloc(), text, count)?.as_str() == wanted,
             "after {count} bytes"
         );
     }
@@ -163,7 +197,7 @@ fn many_fill_bytes(rt: HostRuntime) -> Result<(), Fail> {
 #[test]
 fn copies_in_pieces_of_every_size(rt: HostRuntime) -> Result<(), Fail> {
     let alloc = rt.alloc();
-    for &(text, wanted) in &COPIES {
+    for &(text, wanted) in copies() {
         let bytes = bytes_of(alloc, text)?;
         check_copy(&rt, alloc, &bytes, wanted)?;
     }
@@ -191,13 +225,16 @@ fn interval_of(alloc: Global, frame: &str, data: &str) -> Result<Vec<u8>, Fail> 
 /// The first `end` bytes of the copy of ten lines with a restart interval each.
 #[test]
 fn copies_cut_anywhere(rt: HostRuntime) -> Result<(), Fail> {
-    let alloc = rt.alloc();
-    let whole = bytes_of(alloc, TEN_LINES)?;
+    let whole = bytes_of(rt.alloc(), TEN_LINES)?;
     for end in 0..=61usize {
-        let bytes = &whole[..end.min(whole.len())];
-        check_copy(&rt, alloc, bytes, &read_of_prefix(alloc, end)?)?;
+        check_prefix(&rt, rt.alloc(), &whole, end)?;
     }
     Ok(())
+}
+
+fn check_prefix(rt: &impl Abort, alloc: Global, whole: &[u8], end: usize) -> Result<(), Fail> {
+    let wanted = read_of_prefix(alloc, end)?;
+    check_copy(rt, alloc, &whole[..end.min(whole.len())], &wanted)
 }
 
 /// What these bytes give.
@@ -214,35 +251,53 @@ fn read_of_prefix(alloc: Global, end: usize) -> Result<String, Fail> {
 fn lines_and_end(alloc: Global, end: usize) -> Result<String, Fail> {
     let mut out = String::new(alloc);
     let data = if end > 31 { end - 31 } else { 0 };
-    for line in 0..10usize {
-        if 3 * line < data {
-            write!(&mut out, "0.{line}=[{line}] ")?;
-        }
-    }
-    write!(&mut out, "| ")?;
-    if end == 61 {
-        write!(&mut out, "0 Eoi(59)")?;
-    } else if data % 3 == 0 {
-        write!(&mut out, "0 {} {end} Broken; 1 Input({end})", data / 3)?;
-    } else {
-        write!(&mut out, "0 Input({end})")?;
-    }
+    put_whole_lines(&mut out, data)?;
+    put_end(&mut out, data, end)?;
     Ok(out)
 }
 
-/// A picture of 4,096 lines whose input ends after eight times FF 7F: 45 lines stand whole.
-#[test]
-fn a_large_picture_is_cut(rt: HostRuntime) -> Result<(), Fail> {
-    let mut bytes = bytes_of(rt.alloc(), LARGE_PICTURE)?;
+fn put_whole_lines(out: &mut String, data: usize) -> Result<(), Fail> {
+    for line in 0..10usize {
+        if 3 * line < data {
+            write!(out, "0.{line}=[{line}] ")?;
+        }
+    }
+    Ok(())
+}
+
+fn put_end(out: &mut String, data: usize, end: usize) -> Result<(), Fail> {
+    if end == 61 {
+        write!(out, "| 0 Eoi(59)")?;
+    } else if data % 3 == 0 {
+        write!(out, "| 0 {} {end} Broken; 1 Input({end})", data / 3)?;
+    } else {
+        write!(out, "| 0 Input({end})")?;
+    }
+    Ok(())
+}
+
+/// What a picture of 4,096 lines gives whose input ends after eight times FF 7F.
+fn cut_large_picture(alloc: Global) -> Result<CopyRead, Fail> {
+    let mut bytes = bytes_of(alloc, LARGE_PICTURE)?;
     bytes.truncate(41);
-    let read = read_in_pieces(rt.alloc(), &bytes, 4096)?;
+    Ok(read_in_pieces(alloc, &bytes, 4096)?)
+}
+
+/// 45 lines stand whole.
+fn check_large_picture(rt: &impl Abort, read: &CopyRead) {
     assert!(rt; read.piece_count() == 1 && read.ended() == End::Input(41));
     for line in 0..4096u16 {
         assert!(rt;
-            lines_of(&read, line) == if line < 45 { 1 } else { 0 },
+            lines_of(read, line) == if line < 45 { 1 } else { 0 },
             "line {line}"
         );
     }
+}
+
+#[test]
+fn a_large_picture_is_cut(rt: HostRuntime) -> Result<(), Fail> {
+    let read = cut_large_picture(rt.alloc())?;
+    check_large_picture(&rt, &read);
     Ok(())
 }
 
@@ -255,13 +310,15 @@ fn lines_of(read: &CopyRead, line: u16) -> usize {
     partial.count(0, line)
 }
 
+/// A scan of one sample.
+const SCAN: [u8; 11] = [0xFF, 0xDA, 0, 8, 1, 1, 0, 0, 0, 0, 0x80];
+
 #[test]
 fn seventeen_scans(rt: HostRuntime) -> Result<(), Fail> {
     let alloc = rt.alloc();
     let mut bytes = bytes_of(alloc, "FF D8 FF F7 00 0B 08 00 01 00 01 01 01 11 00")?;
-    let scan = bytes_of(alloc, "FF DA 00 08 01 01 00 00 00 00 80")?;
     for _ in 0..17u8 {
-        bytes.extend_from_slice(&scan)?;
+        bytes.extend_from_slice(&SCAN)?;
     }
     check_copy(&rt, alloc, &bytes, "0.0=[0] | 0 Header(TooManyScans, 191)")
 }
@@ -282,28 +339,43 @@ fn copy_of_lines(alloc: Global, piece: &[u8]) -> Result<Vec<u8>, Fail> {
     Ok(bytes)
 }
 
+/// What this copy gives.
+fn read_of_lines(alloc: Global, piece: &[u8]) -> Result<CopyRead, Fail> {
+    let bytes = copy_of_lines(alloc, piece)?;
+    Ok(read_in_pieces(alloc, &bytes, 4096)?)
+}
+
+/// Whether a copy is settled, and ends as one of 5,000 lines.
+fn is_read_whole(read: &CopyRead) -> bool {
+    read.partial().is_settled() && read.piece_count() == 0 && read.ended() == End::Eoi(15_029)
+}
+
 #[test]
 fn many_lines(rt: HostRuntime) -> Result<(), Fail> {
-    let bytes = copy_of_lines(rt.alloc(), &[0x80])?;
-    let read = read_in_pieces(rt.alloc(), &bytes, 4096)?;
-    assert!(rt; read.partial().is_settled());
-    assert!(rt; read.piece_count() == 0 && read.ended() == End::Eoi(15_029));
+    let read = read_of_lines(rt.alloc(), &[0x80])?;
+    assert!(rt; is_read_whole(&read));
     Ok(())
+}
+
+/// The last faulty piece that is recorded.
+const LAST_RECORD: PieceRecord = PieceRecord {
+    scan: 0,
+    interval: 4095,
+    offset: 8221,
+    kind: PieceKind::Broken,
+};
+
+/// Of 5,000 faulty pieces 4,096 are recorded.
+fn check_records(rt: &impl Abort, read: &CopyRead) {
+    assert!(rt; read.pieces().len() == 4096);
+    assert!(rt; read.pieces().last() == Some(&LAST_RECORD));
+    assert!(rt; read.piece_count() == 5000 && read.ended() == End::Eoi(10_029));
 }
 
 #[test]
 fn many_faulty_pieces(rt: HostRuntime) -> Result<(), Fail> {
-    let bytes = copy_of_lines(rt.alloc(), &[])?;
-    let read = read_in_pieces(rt.alloc(), &bytes, 4096)?;
-    let last = PieceRecord {
-        scan: 0,
-        interval: 4095,
-        offset: 8221,
-        kind: PieceKind::Broken,
-    };
-    assert!(rt; read.pieces().len() == 4096);
-    assert!(rt; read.pieces().last() == Some(&last));
-    assert!(rt; read.piece_count() == 5000 && read.ended() == End::Eoi(10_029));
+    let read = read_of_lines(rt.alloc(), &[])?;
+    check_records(&rt, &read);
     Ok(())
 }
 
@@ -344,15 +416,21 @@ fn read_of_cut(alloc: Global, left: usize) -> Result<String, Fail> {
     Ok(format!(in alloc; "{lines}| {record} Input({end})")?)
 }
 
+/// Whether it does, in slices of five bytes.
+fn is_read_cut(alloc: Global, whole: &[u8], left: usize) -> Result<bool, Fail> {
+    let wanted = read_of_cut(alloc, left)?;
+    let bytes = &whole[..left.saturating_add(25).min(whole.len())];
+    gives(alloc, bytes, 5, &wanted)
+}
+
 #[test]
 fn cut_copies(rt: HostRuntime) -> Result<(), Fail> {
-    let alloc = rt.alloc();
-    let whole = bytes_of(alloc, FOUR_LINES)?;
+    let whole = bytes_of(rt.alloc(), FOUR_LINES)?;
     for left in 0..=31usize {
-        let bytes = &whole[..(25 + left).min(whole.len())];
-        let read = reported(alloc, read_in_pieces(alloc, bytes, 5))?;
-        let wanted = read_of_cut(alloc, left)?;
-        assert!(rt; read == wanted, "{left} bytes of scan data");
+        assert!(rt;
+            is_read_cut(rt.alloc(), &whole, left)?,
+            "{left} bytes of scan data"
+        );
     }
     Ok(())
 }

@@ -17,7 +17,7 @@ pub const LARGE_PICTURE: &str =
 
 /// The bytes of a copy, and what it gives: its readings as component, line and samples, then each faulty piece as scan, interval,
 /// offset and kind, their number and the copy's end; or the fault for which it has no picture.
-pub const COPIES: [(&str, &str); 42] = [
+const COPIES: [(&str, &str); 42] = [
     // A picture of four lines.
     (
         FOUR_LINES,
@@ -239,6 +239,11 @@ pub const COPIES: [(&str, &str); 42] = [
         "| 0 Header(Length, 16)",
     ),
 ];
+
+/// The copies. The checker reads the table in this function alone, and not in each test.
+pub fn copies() -> &'static [(&'static str, &'static str)] {
+    &COPIES
+}
 
 /// Precision, height and width of a picture of one component, the scan data before EOI, and what the copy gives.
 pub const INTERVALS: [(&str, &str, &str); 26] = [

@@ -1,7 +1,7 @@
 //! Copies with scans by sample, read under both profiles. CharLS 2.4.1 wrote their scan data, and reads both files as these lines.
 
 use crate::copies::{bytes_of, check_copy, reported};
-use crate::known::COPIES;
+use crate::known::copies;
 use jls_copy::{CopyFault, ProfileReader};
 use jls_marker::Profile;
 use std::alloc::Global;
@@ -49,12 +49,18 @@ fn feed_piece(reader: &mut ProfileReader, piece: &[u8]) -> Result<(), CopyFault>
     }
 }
 
+/// Feeds a copy in slices of this size.
+fn feed_in_pieces(reader: &mut ProfileReader, bytes: &[u8], size: usize) -> Result<(), CopyFault> {
+    for piece in bytes.chunks(size.max(1)) {
+        feed_piece(reader, piece)?;
+    }
+    Ok(())
+}
+
 /// What a copy gives under a profile, if it comes in slices of this size.
 fn read_under(alloc: Global, profile: Profile, bytes: &[u8], size: usize) -> Result<String, Fail> {
     let mut reader = ProfileReader::new(alloc, profile);
-    for piece in bytes.chunks(size.max(1)) {
-        feed_piece(&mut reader, piece)?;
-    }
+    feed_in_pieces(&mut reader, bytes, size)?;
     reported(alloc, reader.finish())
 }
 
@@ -67,30 +73,39 @@ fn check_under(
     wanted: &str,
 ) -> Result<(), Fail> {
     for size in [1, 2, 7, 4096] {
-        let read = read_under(alloc, profile, bytes, size)?;
         assert!(rt;
-            read.as_str() == wanted,
+            read_under(alloc, profile, bytes, size)?.as_str() == wanted,
             "{profile:?}, in slices of {size}: {wanted}"
         );
     }
     Ok(())
 }
 
+/// Makes sure that a copy gives this under each profile.
+fn check_both(
+    rt: &impl Abort,
+    alloc: Global,
+    bytes: &[u8],
+    strict: &str,
+    wide: &str,
+) -> Result<(), Fail> {
+    check_copy(rt, alloc, bytes, strict)?;
+    check_under(rt, alloc, Profile::Strict, bytes, strict)?;
+    check_under(rt, alloc, Profile::Wide, bytes, wide)
+}
+
 #[test]
 fn copies_by_sample(rt: HostRuntime) -> Result<(), Fail> {
-    let alloc = rt.alloc();
     for &(text, strict, wide) in &PROFILED {
-        let bytes = bytes_of(alloc, text)?;
-        check_copy(&rt, alloc, &bytes, strict)?;
-        check_under(&rt, alloc, Profile::Strict, &bytes, strict)?;
-        check_under(&rt, alloc, Profile::Wide, &bytes, wide)?;
+        let bytes = bytes_of(rt.alloc(), text)?;
+        check_both(&rt, rt.alloc(), &bytes, strict, wide)?;
     }
     Ok(())
 }
 
 #[test]
 fn other_copies_give_the_same_under_the_wide_profile(rt: HostRuntime) -> Result<(), Fail> {
-    for &(text, wanted) in &COPIES {
+    for &(text, wanted) in copies() {
         let bytes = bytes_of(rt.alloc(), text)?;
         check_under(&rt, rt.alloc(), Profile::Wide, &bytes, wanted)?;
     }
@@ -114,56 +129,103 @@ fn read_of_cut(alloc: Global, left: usize) -> Result<String, Fail> {
     Ok(format!(in alloc; "{lines}| {record} Input({end})")?)
 }
 
+/// Whether it does, in slices of five bytes.
+fn is_read_cut(alloc: Global, whole: &[u8], left: usize) -> Result<bool, Fail> {
+    let wanted = read_of_cut(alloc, left)?;
+    let bytes = &whole[..left.saturating_add(35).min(whole.len())];
+    Ok(read_under(alloc, Profile::Wide, bytes, 5)? == wanted)
+}
+
 #[test]
 fn cut_copies_by_sample(rt: HostRuntime) -> Result<(), Fail> {
-    let alloc = rt.alloc();
-    let whole = bytes_of(alloc, BY_SAMPLE)?;
+    let whole = bytes_of(rt.alloc(), BY_SAMPLE)?;
     for left in 0..=26usize {
-        let bytes = &whole[..(35 + left).min(whole.len())];
-        let read = read_under(alloc, Profile::Wide, bytes, 5)?;
-        let wanted = read_of_cut(alloc, left)?;
-        assert!(rt; read == wanted, "{left} bytes of scan data");
+        assert!(rt;
+            is_read_cut(rt.alloc(), &whole, left)?,
+            "{left} bytes of scan data"
+        );
     }
     Ok(())
 }
 
-/// What a reader gives that was fed the first bytes and cloned, and what its clone does. Both are then fed the others.
-fn read_twice(alloc: Global, prefix: &[u8], back: &[u8]) -> Result<(String, String), Fail> {
+/// A reader that was fed these bytes.
+fn fed(alloc: Global, bytes: &[u8]) -> Result<ProfileReader, Fail> {
     let mut reader = ProfileReader::new(alloc, Profile::Wide);
-    feed_piece(&mut reader, prefix)?;
-    let mut clone = reader.try_clone()?;
-    feed_piece(&mut reader, back)?;
-    let read = reported(alloc, reader.finish())?;
-    feed_piece(&mut clone, back)?;
-    Ok((read, reported(alloc, clone.finish())?))
+    feed_piece(&mut reader, bytes)?;
+    Ok(reader)
+}
+
+/// Whether a reader gives this once it was fed these bytes too.
+fn reads_on(
+    alloc: Global,
+    mut reader: ProfileReader,
+    bytes: &[u8],
+    wanted: &str,
+) -> Result<bool, Fail> {
+    feed_piece(&mut reader, bytes)?;
+    Ok(reported(alloc, reader.finish())?.as_str() == wanted)
+}
+
+/// Whether a reader that was fed the first bytes and cloned gives this, and its clone too. Both are then fed the others.
+fn read_twice(alloc: Global, prefix: &[u8], back: &[u8], wanted: &str) -> Result<[bool; 2], Fail> {
+    let reader = fed(alloc, prefix)?;
+    let clone = reader.try_clone()?;
+    let of_reader = reads_on(alloc, reader, back, wanted)?;
+    Ok([of_reader, reads_on(alloc, clone, back, wanted)?])
+}
+
+/// Makes sure that they do, where the reader is cloned after each byte.
+fn check_clones(rt: &impl Abort, alloc: Global, bytes: &[u8], wanted: &str) -> Result<(), Fail> {
+    for place in 0..=bytes.len() {
+        let (prefix, back) = bytes.split_at(place.min(bytes.len()));
+        assert!(rt;
+            read_twice(alloc, prefix, back, wanted)? == [true, true],
+            "the reader or its clone, after {place} bytes"
+        );
+    }
+    Ok(())
 }
 
 #[test]
 fn clones_by_sample(rt: HostRuntime) -> Result<(), Fail> {
     for &(text, _, wanted) in &PROFILED {
         let bytes = bytes_of(rt.alloc(), text)?;
-        for place in 0..=bytes.len() {
-            let (prefix, back) = bytes.split_at(place.min(bytes.len()));
-            let (read, again) = read_twice(rt.alloc(), prefix, back)?;
-            assert!(rt; read.as_str() == wanted, "after {place} bytes");
-            assert!(rt; again.as_str() == wanted, "the clone, after {place} bytes");
-        }
+        check_clones(&rt, rt.alloc(), &bytes, wanted)?;
     }
     Ok(())
 }
 
+/// A reader is done after so many bytes, and not before.
+fn check_done(
+    rt: &impl Abort,
+    reader: &mut ProfileReader,
+    bytes: &[u8],
+    done: usize,
+) -> Result<(), Fail> {
+    for (place, byte) in bytes.iter().enumerate() {
+        assert!(rt; reader.is_done() == (place >= done), "{done}, {place}");
+        feed_piece(reader, &[*byte])?;
+    }
+    assert!(rt; reader.is_done() && reader.fed() == 62);
+    Ok(())
+}
+
 /// Readers say their profile, and whether a copy is done: the strict one is at the scan header, and the wide one at EOI.
+fn check_profile(
+    rt: &impl Abort,
+    alloc: Global,
+    bytes: &[u8],
+    profile: Profile,
+    done: usize,
+) -> Result<(), Fail> {
+    let mut reader = ProfileReader::new(alloc, profile);
+    assert!(rt; reader.profile() == profile);
+    check_done(rt, &mut reader, bytes, done)
+}
+
 #[test]
 fn readers_are_done(rt: HostRuntime) -> Result<(), Fail> {
     let bytes = bytes_of(rt.alloc(), BY_SAMPLE)?;
-    for (profile, done) in [(Profile::Strict, 35), (Profile::Wide, 62)] {
-        let mut reader = ProfileReader::new(rt.alloc(), profile);
-        assert!(rt; reader.profile() == profile);
-        for (place, byte) in bytes.iter().enumerate() {
-            assert!(rt; reader.is_done() == (place >= done), "{profile:?}, {place}");
-            feed_piece(&mut reader, &[*byte])?;
-        }
-        assert!(rt; reader.is_done() && reader.fed() == 62);
-    }
-    Ok(())
+    check_profile(&rt, rt.alloc(), &bytes, Profile::Strict, 35)?;
+    check_profile(&rt, rt.alloc(), &bytes, Profile::Wide, 62)
 }
