@@ -13,7 +13,8 @@ from jls_tools.dicom.axis.align import Copy
 from jls_tools.dicom.axis.media import SECTOR, SECTORS
 from jls_tools.dicom.axis.periods import TEXT
 
-BEFORE, BEHIND = 3, 2  # bytes of a text over a border that are sought elsewhere
+AROUND = ((2, 1), (1, 2))  # so many bytes of a text before and behind a border are sought elsewhere
+MOST = 2  # bytes of these on one side
 LEAST_BORDERS = 32  # so many borders in texts, at least, show what is usual
 SHARE_USUAL = 4  # one of so many of them, at most, is new
 
@@ -21,7 +22,7 @@ SHARE_USUAL = 4  # one of so many of them, at most, is new
 def goes_on_nowhere(copies: Sequence[Copy], data: bytes, parts: Sequence[tuple[int, int]]) -> Optional[int]:
     """Where such a sector begins, or such sectors. `data` is the file with what was taken, `parts` what of it no frame has."""
     alone = [border for border in range(SECTOR, len(data) - SECTOR, SECTOR) if is_alone(copies, data, border)]
-    inside = [at for at in alone if any(begin < at - BEFORE and at + SECTOR + BEHIND <= end for begin, end in parts)]
+    inside = [at for at in alone if any(begin <= at - MOST and at + SECTOR + MOST <= end for begin, end in parts)]
     new = set(new_borders(data, parts)) if inside else set()
     return next((at for at, end in blocks_of(inside) if {at, end} <= new), None)
 
@@ -45,8 +46,8 @@ def blocks_of(borders: Sequence[int]) -> Iterator[tuple[int, int]]:
 def new_borders(data: bytes, parts: Sequence[tuple[int, int]]) -> Iterator[int]:
     """The borders of sectors that lie in texts which no other place of the file has. None where many are so."""
     known = b"".join(data[begin:end] for begin, end in parts)
-    texts = {at: data[at - BEFORE : at + BEHIND] for at in range(SECTOR, len(data), SECTOR)}
-    inner = [at for at in texts if TEXT.match(texts[at]) and any(begin < at < end for begin, end in parts)]
-    found = [at for at in inner if known.count(texts[at]) < 2]
+    borders = [at for at in range(SECTOR, len(data), SECTOR) if any(begin < at < end for begin, end in parts)]
+    inner = [at for at in borders if TEXT.match(data[at - MOST : at + MOST])]
+    found = [at for at in inner if any(known.count(data[at - before : at + behind]) < 2 for before, behind in AROUND)]
     if len(inner) >= LEAST_BORDERS and len(found) * SHARE_USUAL <= len(inner):
         yield from found

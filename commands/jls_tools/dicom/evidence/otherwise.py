@@ -21,11 +21,10 @@ FILLERS = b"\0 "
 def stands_otherwise(header: Header, data: bytes) -> Optional[int]:
     """Where a sector outside of frames begins of which a copy has another reading elsewhere."""
     borders = sorted({place // SECTOR * SECTOR for begin, end in header.outside(0, len(data)) for place in range(begin, end, SECTOR)})
-    for copy in header.copies:
-        wrong = list(not_taken(copy, data))
-        for border in borders if wrong else ():
-            if any(are_alike(data[border : border + SECTOR], other) for other in wrong):
-                return border
+    for other in (sector for copy in header.copies for sector in not_taken(copy, data)):
+        alike = [border for border in borders if are_alike(data[border : border + SECTOR], other)]
+        if len(alike) == 1:  # what is like several is like any other of its kind
+            return alike[0]
     return None
 
 
