@@ -4,11 +4,14 @@ Files of one series have nearly the same sectors. So one of another file can sta
 """
 from __future__ import annotations
 
+import itertools
 from collections.abc import Iterator
 from typing import TYPE_CHECKING, Optional
 
 from jls_tools.dicom.axis.align import Copy
 from jls_tools.dicom.axis.media import SECTOR
+from jls_tools.dicom.evidence.doubtful import places_of
+from jls_tools.dicom.evidence.misplaced import MOST_LOOKS
 
 if TYPE_CHECKING:
     from jls_tools.dicom.evidence.header import Header
@@ -21,20 +24,19 @@ FILLERS = b"\0 "
 def stands_otherwise(header: Header, data: bytes) -> Optional[int]:
     """Where a sector outside of frames begins of which a copy has another reading elsewhere."""
     borders = sorted({place // SECTOR * SECTOR for begin, end in header.outside(0, len(data)) for place in range(begin, end, SECTOR)})
-    for other in (sector for copy in header.copies for sector in not_taken(copy, data)):
+    wrong = (sector for copy in header.copies for sector in not_taken(copy, data))
+    for other in itertools.islice(wrong, MOST_LOOKS):
         alike = [border for border in borders if are_alike(data[border : border + SECTOR], other)]
-        if len(alike) == 1:  # what is like several is like any other of its kind
+        if len(alike) == 1 and next(places_of(other, data), None) is None:  # what is like several is like any other of its kind
             return alike[0]
     return None
 
 
 def not_taken(copy: Copy, data: bytes) -> Iterator[bytes]:
-    """The sectors of a copy of which most was not taken, and that the file has at no other place."""
-    borders = range(0, len(data) - SECTOR + 1, SECTOR)
-    known = {data[border : border + SECTOR] for border in borders}
-    for border in borders:
+    """The sectors of a copy of which most was not taken."""
+    for border in range(0, len(data) - SECTOR + 1, SECTOR):
         own, taken = copy.data[border : border + SECTOR], data[border : border + SECTOR]
-        if own not in known and apart(own, taken) * 2 > SECTOR and not copy.lacks(border, border + SECTOR):
+        if own != taken and apart(own, taken) * 2 > SECTOR and not copy.lacks(border, border + SECTOR):
             yield own
 
 

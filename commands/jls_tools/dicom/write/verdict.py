@@ -85,10 +85,11 @@ class Verdict:
         at = ends_before(self.frames.copies, self.layout.structure.end_of_pixels())
         if at is not None:
             return f"a copy has the end of Pixel Data before {at}, where others go on"
-        at = stands_twice(self.header, self.with_frames())
+        whole = self.with_frames()
+        at = stands_twice(self.header, whole)
         if at is not None:
             return f"the sector at {at} stands elsewhere in the file too"
-        at = stands_otherwise(self.header, self.with_frames())
+        at = stands_otherwise(self.header, whole)
         if at is not None:
             return f"a copy has the sector at {at} elsewhere, with other bytes"
         at = goes_on_nowhere(self.frames.copies, data, list(self.header.outside(0, len(data))))
