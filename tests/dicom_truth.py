@@ -414,6 +414,9 @@ def checks_of_read_anew(made: File) -> Iterator[Check]:
         found = faults_of(data, count + (data == true))
         told = any(words in fault.text and not fault.can_be_writers for fault in found)
         yield f"read anew: {name} ({[fault.text for fault in found]})", told
+    table = changed(true, (made.table_at + 4, struct.pack("<I", 12)))
+    ranges = [each for fault in faults_of(table, count) if "offset table" in fault.text for each in fault.ranges]
+    yield f"an offset table leads elsewhere, as headers of items say ({ranges})", (made.items[1], made.items[1] + 8) in ranges
 
 
 TRUTH = [checks_of_chimeras, checks_of_finished, checks_of_cuts, checks_of_most, checks_of_syntaxes]

@@ -18,8 +18,8 @@ from jls_tools.dicom.walk.frames import FramePlace, by_search, paired_by_bytes
 from jls_tools.dicom.walk.lost import Lost, equal_in_most, most_of
 from jls_tools.dicom.witnessed_frames import WitnessedFrames
 from jls_tools.frames.codestream import EOI_AND_PADDING, without_padding
-from jls_tools.frames.likeness import is_connected, is_spliced
-from jls_tools.frames.mending import KEPT, FrameMender, Mended
+from jls_tools.frames.likeness import is_connected, is_spliced, shares_little
+from jls_tools.frames.mending import KEPT, OTHER_STREAM, FrameMender, Mended
 from jls_tools.frames.mending_codings import CodingsMender
 
 
@@ -39,12 +39,14 @@ class MendedFrames:
         self.own = [self.own_streams(place, [copy.data for copy in self.copies]) for place in self.layout.places]
         filled = self.own
         self.kept: dict[int, list[bytes]] = {}
+        self.rivals: dict[int, list[bytes]] = {}  # for each frame what copies have in an item of their own there
         self.origins: dict[bytes, tuple[int, Range]] = {}  # of streams that are found by search: the copy, and where they stand in it
         if self.layout.has_header and is_through(self.layout.structure):
             lost = Lost(self.copies, self.layout)
             texts = lost.filled()
             filled = [self.own_streams(place, texts) for place in self.layout.places]
             self.kept = {place.number: lost.of_this_file(place, filled[place.number]) for place in self.layout.places}
+            self.rivals = {place.number: lost.other_frames(place) for place in self.layout.places}
         self.streams = [list(dict.fromkeys(own.values())) for own in filled]
         if not self.layout.places:
             self.streams = paired_by_bytes([self.searched(at) for at in chosen])
@@ -112,6 +114,9 @@ class MendedFrames:
         if self.has_rival(number):
             return Mended(FrameResult(number, "disputed", note="other items are as likely here"))
         mended = self.mended_of_one_coding(number, streams, begin, place is not None and place.is_exact)
+        stream = mended.stream if mended.is_whole else None
+        if stream is not None and any(shares_little(stream, rival) for rival in self.rivals.get(number, ())):
+            mended.result.kind, mended.result.note = "disputed", OTHER_STREAM
         if mended.is_unpadded:
             self.kept[number] = without_padding(self.kept.get(number, streams))
         others = self.others.get(number)

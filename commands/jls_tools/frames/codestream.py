@@ -48,6 +48,7 @@ def shape_of(stream: bytes) -> Optional[Shape]:
 MARKER = re.compile(rb"\xff+([\x80-\xfe])", re.S)
 EOI, RESTARTS = b"\xff\xd9", range(0xD0, 0xD8)
 EOI_AND_PADDING = EOI + b"\0"
+MOST_PADDING = 1  # bytes between a frame's EOI and the end of its item
 
 
 def codestream_end(stream: bytes) -> Optional[int]:
@@ -59,6 +60,12 @@ def codestream_end(stream: bytes) -> Optional[int]:
             return at
         at += 0 if code in RESTARTS else int.from_bytes(stream[at : at + 2], "big")
     return None
+
+
+def fills(stream: bytes) -> bool:
+    """Whether a codestream goes from the beginning of some bytes to their end, but for padding."""
+    end = codestream_end(stream)
+    return end is not None and len(stream) - end <= MOST_PADDING
 
 
 def unpadded(stream: bytes) -> bytes:

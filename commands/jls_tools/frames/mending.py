@@ -23,6 +23,7 @@ FEWEST_TRIES = 1
 KEPT, UNPADDED = 1 << 21, 1 << 22  # added to the number of a frame: so nothing of it is written over
 EOI_ADDED = "eoi added"
 BY_SECTORS = "picture if the true file has in each sector what one copy has there"
+OTHER_STREAM = "another copy has less than half of these bytes here"
 GAVE_LINES = "copies of several codings gave each other lines"
 AnyOutcome = TypeVar("AnyOutcome", bound=Outcome)
 
@@ -272,7 +273,7 @@ class FrameMender:
             kind = "lines"
         if kind == "whole" and stream is not None and stream not in further:
             if stream in streams and any(shares_little(stream, other) for other in streams if other not in further):
-                kind, note = "disputed", "another copy has less than half of these bytes here"
+                kind, note = "disputed", OTHER_STREAM
         return Mended(self.result(number, kind, report, promise, note), stream, others, self.path(partial), report.shape)
 
     def unsupported_of(self, streams: Sequence[bytes], names: Sequence[str]) -> str | None:

@@ -8,7 +8,7 @@ from typing import TYPE_CHECKING
 
 from jls_tools.dicom.evidence.alone import ONLY_VERSION
 from jls_tools.dicom.evidence.uids import are_denied, may_be_of_series
-from jls_tools.dicom.read.elements import JPEG_LS, Element, tag_name, text_of
+from jls_tools.dicom.read.elements import JPEG_LS, tag_name, text_of
 from jls_tools.dicom.read.tags import GROUP_LENGTH, INSTANCE, META, PREAMBLE, PREFIX, SYNTAX, TWINS, VERSION, VERSION_NAME, WRITER
 from jls_tools.dicom.read.values import allows
 
@@ -57,16 +57,16 @@ def by_twins(header: Header, first: int, second: int) -> None:
     ones = [reading for reading in header.readings(one.value, one.end) if allows(b"UI", reading[0])]
     twos = [reading for reading in header.readings(two.value, two.end) if allows(b"UI", reading[0])]
     both = {text_of(value) for value, _ in ones} & {text_of(value) for value, _ in twos}
-    given = header.copies, both, (one, two), partial(is_against, header)
+    given = header.copies, both, (one, two), bytes(header.merged()), partial(is_against, header)
     if both and not are_denied(*given) and not (second == INSTANCE and may_be_of_series(*given)):
         why = f"{tag_name(first)} and {tag_name(second)} are equal so"
         header.keep_readings([reading for reading in ones if text_of(reading[0]) in both], why)
         header.keep_readings([reading for reading in twos if text_of(reading[0]) in both], why)
 
 
-def is_against(header: Header, copy: int, element: Element) -> bool:
-    """Whether a part of an element was decided against a copy."""
-    numbers = header.runs.touching(element.start, element.end)
+def is_against(header: Header, copy: int, begin: int, end: int) -> bool:
+    """Whether a part of a range was decided against a copy."""
+    numbers = header.runs.touching(begin, end)
     return any(len(header.left.get(number, ())) == 1 and copy not in header.holders(number) for number in numbers)
 
 

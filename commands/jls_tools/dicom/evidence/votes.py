@@ -123,7 +123,7 @@ def with_other_uid(header: Header) -> set[int]:
     """The copies that have the UID of another file of the series."""
     uid = header.text(INSTANCE)
     elements = [header.elements[tag] for tag in (INSTANCE_IN_META, INSTANCE) if tag in header.elements]
-    return of_series(header.copies, uid, elements) if uid else set()
+    return set(of_series(header.copies, uid, elements, bytes(header.merged()))) if uid else set()
 
 
 def by_frames_alone(header: Header) -> None:

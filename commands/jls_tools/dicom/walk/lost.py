@@ -14,14 +14,17 @@ from jls_tools.dicom.axis.align import Copy
 from jls_tools.dicom.axis.apart import differing
 from jls_tools.dicom.axis.media import SECTORS, SHARE
 from jls_tools.dicom.axis.seven_bits import sent_in
+from jls_tools.dicom.read.elements import ITEM_TAG
 from jls_tools.dicom.walk.frames import FramePlace
 from jls_tools.dicom.walk.structure import Structure
 from jls_tools.dicom.walk.ways import PIXELS, Step
+from jls_tools.frames.codestream import fills
 from jls_tools.frames.likeness import shares_little
 
 if TYPE_CHECKING:
     from jls_tools.dicom.layout import Layout
 
+HEAD = 8  # bytes of the header of an item
 LONG = 32  # so many bytes of code that all lack the highest bit, at least, are so by no chance
 
 
@@ -118,10 +121,20 @@ class Lost:
 
     def of_this_file(self, place: FramePlace, own: Mapping[int, bytes]) -> list[bytes]:
         """Of {copy: its stream of a frame} those that differ, without one of another length that has little in common with the others."""
-        denied = {copy for copy in own if self.has_denied(copy, place.begin - 8, place.begin)}
+        denied = {copy for copy in own if self.has_denied(copy, place.begin - HEAD, place.begin)}
         sure = [stream for copy, stream in own.items() if copy not in denied]
         kept = [own[copy] for copy in own if copy not in denied or not any(shares_little(stream, own[copy]) for stream in sure)]
         return list(dict.fromkeys(kept))
+
+    def other_frames(self, place: FramePlace) -> list[bytes]:
+        """The streams of copies that have an item of their own where a frame stands, and another header of it: no damage makes such."""
+        found = []
+        for number, copy in enumerate(self.copies):
+            own = copy.has_only(place.begin - HEAD, self.total) if self.has_denied(number, place.begin - HEAD, place.begin) else b""
+            end = HEAD + int.from_bytes(own[4:HEAD], "little")
+            if own[:4] == ITEM_TAG and end <= len(own) and fills(own[HEAD:end]):
+                found.append(own[HEAD:end])
+        return found
 
 
 def inner_losses(copy: Copy) -> list[tuple[int, int]]:

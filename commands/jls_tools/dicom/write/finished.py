@@ -30,7 +30,7 @@ from jls_tools.dicom.read.tags import (
 )
 from jls_tools.dicom.read.values import allows
 from jls_tools.dicom.walk.frames import table_of
-from jls_tools.frames.codestream import codestream_end
+from jls_tools.frames.codestream import fills
 
 UIDS = (
     (CLASS_IN_META, "SOP Class UID of the meta information"),
@@ -43,7 +43,6 @@ NAMES_OF_TWINS = ("SOP Class UIDs", "SOP Instance UIDs")
 # Those that the frames do not say
 OF_PICTURE = ((PHOTOMETRIC, "Photometric Interpretation"), (HIGH, "High Bit"), (SIGN, "Pixel Representation"))
 MOST_NEAR = 2  # bytes in which UIDs differ that look like one
-MOST_PADDING = 1  # bytes between a frame's EOI and the end of its item
 
 
 def faults_of(data: bytes, frames: int) -> list[Fault]:
@@ -107,17 +106,18 @@ def of_frames(reading: Reading, count: int) -> Iterator[Fault]:
         yield Fault(f"the items are of {len(frames)} frames, and there are {count}", ((reading.end, reading.end),))
     for number, frame in enumerate(frames):
         stream = b"".join(item.bytes_of(reading.data) for item in frame)
-        end = codestream_end(stream)
-        if end is None or len(stream) - end > MOST_PADDING:
+        if not fills(stream):
             yield Fault(f"the item of frame {number} does not end with it", ((frame[0].start, frame[-1].end),))
     if not fragments or table is None:
         return
     starts = [frame[0].start - fragments[0].start for frame in frames]
     sizes = [sum(item.length for item in frame) for frame in frames]
+    heads = [(item.start, item.value) for item in fragments]
     extended = ((EXTENDED_TABLE, starts), (EXTENDED_LENGTHS, sizes))
     for element, size, wanted in [(table, 4, starts), *((reading.element(tag), 8, wanted) for tag, wanted in extended)]:
         if element and element.length and table_of(reading.data, element.value, element.end, size) != wanted:
-            yield Fault(f"the offset table at {element.start} does not lead to the frames", ((element.value, element.end),), True)
+            text = f"the offset table at {element.start} does not lead to the frames"
+            yield Fault(text, ((element.value, element.end), *heads), True)
 
 
 def grouped(data: bytes, fragments: list[Element], count: int) -> list[list[Element]]:

@@ -5,9 +5,11 @@ from typing import Optional
 
 from jls_tools.dicom.axis.bad_places import outside
 from jls_tools.dicom.copies.given import Given
+from jls_tools.dicom.evidence.borders import goes_on_nowhere
 from jls_tools.dicom.evidence.denials import contradiction, forbidden
 from jls_tools.dicom.evidence.doubtful import change_at, ends_before, hole_in_text, lost_in_each, lost_in_most, stands_twice
 from jls_tools.dicom.evidence.header import Header
+from jls_tools.dicom.evidence.otherwise import stands_otherwise
 from jls_tools.dicom.evidence.uids import stands_against
 from jls_tools.dicom.evidence.witnessed import why_odd
 from jls_tools.dicom.mended_frames import MendedFrames
@@ -66,7 +68,7 @@ class Verdict:
         uid = self.header.text(INSTANCE)
         elements = [self.header.elements[tag] for tag in (INSTANCE_IN_META, INSTANCE) if tag in self.header.elements]
         is_said = uid is not None and uid == self.header.text(INSTANCE_IN_META)
-        return is_said and stands_against(self.frames.copies, uid or "", elements)
+        return is_said and stands_against(self.frames.copies, uid or "", elements, bytes(self.data))
 
     def doubtful(self) -> Optional[str]:
         """Damage of the header that shows by itself, and that no copy contradicts."""
@@ -83,9 +85,16 @@ class Verdict:
         at = ends_before(self.frames.copies, self.layout.structure.end_of_pixels())
         if at is not None:
             return f"a copy has the end of Pixel Data before {at}, where others go on"
-        at = stands_twice(self.header, self.with_frames())
+        whole = self.with_frames()
+        at = stands_twice(self.header, whole)
         if at is not None:
             return f"the sector at {at} stands elsewhere in the file too"
+        at = stands_otherwise(self.header, whole)
+        if at is not None:
+            return f"a copy has the sector at {at} elsewhere, with other bytes"
+        at = goes_on_nowhere(self.frames.copies, data, list(self.header.outside(0, len(data))))
+        if at is not None:
+            return f"one copy alone has the sector at {at}, and over its borders no text goes on so elsewhere"
         at = change_at(self.header)
         return None if at is None else f"damage of two copies has to touch at {at}, inside of a sector"
 
