@@ -20,16 +20,6 @@ fn read_on(mut reader: CopyReader, bytes: &[u8]) -> Result<CopyRead, CopyFault> 
     reader.finish()
 }
 
-/// What the second of two readers gives once the first was fed these bytes too, and then itself.
-fn read_on_both(
-    first: CopyReader,
-    second: CopyReader,
-    bytes: &[u8],
-) -> Result<CopyRead, CopyFault> {
-    let _ = read_on(first, bytes);
-    read_on(second, bytes)
-}
-
 /// What a reader that was fed the first bytes gives after the others, or what its clone does. Both are fed these, the other one first.
 fn read_of_pair(
     alloc: Global,
@@ -42,11 +32,13 @@ fn read_of_pair(
         Ok(clone) => clone,
         Err(_) => return Err(CopyFault::OutOfMemory),
     };
-    if of_clone {
-        read_on_both(reader, clone, back)
+    let (other, wanted) = if of_clone {
+        (reader, clone)
     } else {
-        read_on_both(clone, reader, back)
-    }
+        (clone, reader)
+    };
+    let _ = read_on(other, back);
+    read_on(wanted, back)
 }
 
 /// Makes sure that a copy gives this, by a reader that is cloned after its first bytes, and by its clone.

@@ -3,8 +3,8 @@
 //!
 //! - `values`, `bits`, `context`, `interval`: the crates that code samples
 //! - `headers`, `reading`, `writing`: marker segments
-//! - `partial`, `texts`, `merged_texts`: partial pictures
-//! - `clones`, `copies`, `cuts`, `known`: what whole copies give, and where scan data can be cut, on known values
+//! - `partial`, `texts`, `merged_texts`, `line_sets`: partial pictures
+//! - `clones`, `copies`, `large_copies`, `cuts`, `known`: what whole copies give, and where scan data can be cut, on known values
 //! - `profiles`: what whole copies give under each profile
 #![tactic(auto)]
 
@@ -24,6 +24,10 @@ mod headers;
 mod interval;
 #[cfg(test)]
 mod known;
+#[cfg(test)]
+mod large_copies;
+#[cfg(test)]
+mod line_sets;
 #[cfg(test)]
 mod merged_texts;
 #[cfg(test)]
