@@ -61,6 +61,11 @@ def numbered(made: File, digit: int) -> bytes:
     return put_before(made.bytes, 0x280002, *values)
 
 
+def damaged_at(data: bytes, made: File) -> bytes:
+    """A file that has eight bytes of its first frame zeroed."""
+    return changed(data, (data.index(made.frames[0]) + 70, bytes(8)))
+
+
 def checks_of_exchanged_sectors(bench: Bench, made: File) -> Iterator[Check]:
     """Two sectors of one copy have changed their places, and the other copy has one of them of another file: either can be true."""
     true, other = numbered(made, 1), numbered(made, 2)
@@ -82,6 +87,10 @@ def checks_of_exchanged_sectors(bench: Bench, made: File) -> Iterator[Check]:
     misplaced = changed(blocks, (at, blocks[at + 4 * SECTOR : at + 5 * SECTOR]))
     beside = changed(blocks, (blocks.index(made.frames[0]) + 70, bytes(8)))
     yield told(bench, "a sector of another place, of many that are nearly alike", [misplaced, beside], blocks)
+    several = put_before(blocks, 0x280002, *(element(0x191000 + at, "LO", f"value {at * 37 % 100:02}") for at in range(200)))
+    place = -(-several.index(b"value 37") // SECTOR) * SECTOR + SECTOR
+    strange = several[at : at + SECTOR].replace(b"block 0", b"block 9")
+    yield told(bench, "a sector that is like many", [changed(several, (place, strange)), damaged_at(several, made)], several)
     both = changed(moved, (one + 2 * SECTOR, bytes(SECTOR)))
     yield told(bench, "exchanged sectors, and a lost one", [both, hurt], true)
 
@@ -96,7 +105,7 @@ def checks_of_lone_sectors(bench: Bench, made: File, rng: random.Random) -> Iter
     """One copy has noise, and the other a sector of another file in the same text: over its borders the text doesn't go on."""
     true, begin = with_value(made, lines_of(rng, 900))
     at = -(-begin // 4096) * 4096 + 4096
-    strange = lines_of(rng, 100)
+    strange = lines_of(rng, 300)
     noise = changed(true, (at, rng.randbytes(4096)))
     for place in (at, at + 5 * SECTOR):
         foreign = changed(true, (place, strange[17 : 17 + SECTOR]))
@@ -104,6 +113,11 @@ def checks_of_lone_sectors(bench: Bench, made: File, rng: random.Random) -> Iter
             yield told(bench, "noise, and a sector of other lines under it", copies, true, False, 1)
     hurt = changed(true, (true.index(made.frames[0]) + 70, bytes(8)))
     yield told(bench, "noise alone", [noise, hurt], true)
+    block = changed(true, (at, b"{~" + strange[17 : 17 + 4092] + b"^}"))
+    yield told(bench, "noise, and a block of other lines under it", [noise, block], true, False, 1)
+    new = changed(true, (at + SECTOR - 2, b"#@~^"))
+    lost = changed(new, (at, rng.randbytes(SECTOR)))
+    yield told(bench, "noise, and a new text over one of its borders", [lost, damaged_at(new, made)], new)
 
 
 OF_SERIES = [checks_of_exchanged_frames, checks_of_series_uids, checks_of_exchanged_sectors, checks_of_lone_sectors]
