@@ -7,7 +7,7 @@ from typing import Any, Dict, Iterator, List, Optional, Sequence, Tuple
 from jls_tools.archive import claim, dicom_files, places
 from jls_tools.archive.desk import Copy, Desk
 from jls_tools.archive.joining import Joining
-from jls_tools.archive.rows import Row, Store
+from jls_tools.archive.rows import CANNOT_BE_READ, Row, Store
 from jls_tools.dicom.read.elements import begins_as_dicom
 from jls_tools.programs import ProgramFailed, Programs
 
@@ -166,7 +166,7 @@ class Folders:
             if self.inputs_now(source) == inputs and inputs:
                 raise
             self.places.undo()
-            return "", [Row(name).end("cannot be read", 4, "the folder changed while it was read")]
+            return "", [Row(name).end(CANNOT_BE_READ, 4, "the folder changed while it was read")]
 
     def inputs_now(self, source: str) -> str:
         """What the rows of a folder are made of; nothing if it can't be read."""
