@@ -5,7 +5,7 @@ import contextlib
 import errno
 import os
 import shutil
-from typing import Callable, Dict, List, Optional, Sequence, Tuple
+from typing import Callable, Dict, Iterable, List, Optional, Sequence, Tuple
 
 from jls_tools.archive import by_lists, dicom_files, lists, pictures, places, sums, trees
 from jls_tools.archive.desk import Copy, Desk
@@ -172,7 +172,7 @@ def copy_out(desk: Desk, row: Row, copy: Copy) -> List[str]:
 
 
 def link(desk: Desk, item: Item, row: Row) -> Row:
-    """Symbolic links: one that all trees have and that stays in the tree is made anew. None is followed."""
+    """Symbolic links: one that stays in the tree, with one target in all trees that have it, is made anew. None is followed."""
     row.kind = "link"
     targets = {}
     for tree in item.trees_with(trees.LINK):
@@ -180,13 +180,24 @@ def link(desk: Desk, item: Item, row: Row) -> Row:
     row.copies = len(targets)
     shown = sorted({printable(target) for target in targets.values()})
     if any(trees.leads_out(item.path, target) for target in targets.values()):
-        return row.end("leads out", 1, f"a symbolic link to {', '.join(shown)} is not followed, and not copied")
+        return row.end("leads out", 1, not_followed(targets.values()))
     if len(shown) > 1 or len(item.kinds) > len(targets):
         for tree, target in targets.items():
             make_link(desk, row, target, ("differ", os.path.join(desk.labels[tree], item.path)))
         return row.end("differs", 1, f"symbolic links to {', '.join(shown)}" if targets else "")
     make_link(desk, row, next(iter(targets.values())), ("out", item.path))
     return row.end("copied", 0)
+
+
+def not_followed(targets: Iterable[str]) -> str:
+    """What a note says of symbolic links that are left where they are."""
+    return f"a symbolic link to {', '.join(sorted(set(map(printable, targets))))} is not followed, and not copied"
+
+
+def special(row: Row) -> Row:
+    """The row of what is no file, no folder and no link."""
+    row.kind = "special"
+    return row.end("no file", 1, "a pipe, a socket or a device is not copied")
 
 
 def make_link(desk: Desk, row: Row, target: str, place: Tuple[str, str]) -> None:
@@ -254,6 +265,6 @@ def settle_as_it_is(desk: Desk, item: Item, row: Row) -> Row:
     if kinds == {trees.LINK}:
         return link(desk, item, row)
     if kinds == {trees.SPECIAL}:
-        row.kind, row.copies = "special", len(item.kinds)
-        return row.end("no file", 1, "a pipe, a socket or a device is not copied")
+        row.copies = len(item.kinds)
+        return special(row)
     return mixed(desk, item, row)

@@ -65,8 +65,7 @@ class Trees:
 
     def is_there(self, name: str) -> bool:
         """Whether a tree has something of this path that is no folder."""
-        places = (os.path.join(tree, name) for tree in self.trees)
-        return any(os.path.lexists(place) and (os.path.islink(place) or not os.path.isdir(place)) for place in places)
+        return any(trees.is_no_folder(os.path.join(tree, name)) for tree in self.trees)
 
     def items_of(self, tasks: Iterable[plan.Task]) -> Iterator[Tuple[Item, Optional[Row]]]:
         """The items of all parts. Folders without files are made, and rows of paths that are gone are taken away."""

@@ -62,6 +62,11 @@ def kind_of(entry: os.DirEntry[str]) -> str:
         return FILE
 
 
+def is_no_folder(path: str) -> bool:
+    """Whether something stands there that is no folder. A link to one is none."""
+    return os.path.lexists(path) and (os.path.islink(path) or not os.path.isdir(path))
+
+
 def entries_of(folder: str) -> List[bytes]:
     """What is in a folder, in the order of paths: each name, of a folder with a slash after it, then a zero byte and the kind."""
     with os.scandir(folder) as entries:
