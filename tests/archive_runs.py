@@ -155,6 +155,33 @@ def checks_of_report(work: str) -> Iterator[Check]:
         yield f"report: {os.path.basename(word)} is refused", (status, printed, reason in faults) == (2, "", True)
 
 
+def summary_of(work: str) -> List[str]:
+    """The lines that a run prints."""
+    done = subprocess.run([ARCHIVE, f"{work}/out", f"{work}/a", f"{work}/b"], env=PROGRAMS, capture_output=True, text=True)
+    return done.stdout.splitlines()
+
+
+def checks_of_summary(work: str) -> Iterator[Check]:
+    """What a run prints at its end: one path is one, and what lost no line isn't among those that lost most."""
+    work = f"{work}/summary"
+    for tree in "ab":
+        put(f"{work}/{tree}/note", b"a note")
+    yield "summary: one path is one", summary_of(work)[0] == "1 path, 0 of them pictures; 1 whole, 0 not"
+    put(f"{work}/b/note", b"another note")
+    os.symlink("/nowhere", f"{work}/a/link")
+    os.mkfifo(f"{work}/a/pipe")
+    printed = summary_of(work)
+    is_told = printed[0] == "3 paths, 0 of them pictures; 0 whole, 3 not"
+    yield "summary: notes, links and pipes lost no line", is_told and "most lost:" not in printed
+    (true,) = cases.files_of(work, [cases.rows_of(cases.random_of(5))])
+    for tree, copy in zip("ab", cases.lost(cases.random_of(5), true).copies):
+        put(f"{work}/{tree}/lost.jls", copy or b"")
+        put(f"{work}/{tree}/none.jls", b"\xff\xd8 " + tree.encode())
+    printed = summary_of(work)
+    named = [line.split()[-1] for line in printed[printed.index("most lost:") + 1 : -1]]
+    yield f"summary: pictures that lost lines are named {named}", sorted(named) == ["lost.jls", "none.jls"]
+
+
 def checks_of_seconds(work: str) -> Iterator[Check]:
     """A limit of time for a path is a result: its copies stand aside or are copied through, and the run goes on."""
     work = f"{work}/seconds"
@@ -417,4 +444,4 @@ def checks_of_progress(work: str) -> Iterator[Check]:
 
 
 OF_RUNS = (checks_of_signals, checks_of_report, checks_of_seconds, checks_of_locks, checks_of_job_arrays, checks_of_changes)
-CHECKS = (*OF_RUNS, checks_of_rows, checks_of_table, checks_of_batches, checks_of_progress)
+CHECKS = (*OF_RUNS, checks_of_summary, checks_of_rows, checks_of_table, checks_of_batches, checks_of_progress)

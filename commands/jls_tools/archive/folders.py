@@ -1,29 +1,42 @@
 """jls-archive --folders: a picture of each folder of IN, from the copies in it."""
 from __future__ import annotations
 
+import hashlib
 import os
+import stat
 from typing import Any, Dict, Iterator, List, Optional, Sequence, Tuple
 
-from jls_tools.archive import claim, dicom_files, places
+from jls_tools.archive import claim, dicom_files, places, trees
 from jls_tools.archive.desk import Copy, Desk
+from jls_tools.archive.item import not_followed, special
 from jls_tools.archive.joining import Joining
-from jls_tools.archive.rows import Row, Store
+from jls_tools.archive.rows import CANNOT_BE_READ, Row, Store
 from jls_tools.dicom.read.elements import begins_as_dicom
 from jls_tools.programs import ProgramFailed, Programs
 
 ENDINGS = (".jls", ".jlsp")
+BESIDE = "./"  # begins the path of what stands beside the folders
+IN_NO_FOLDER = "in no folder"
 
 
 class FolderStore(Store):
-    """The row of NAME is OUT/NAME.row."""
+    """The row of NAME is OUT/NAME.row, and that of what stands beside the folders OUT/.SUM.row: a folder can have a row of its name."""
 
     def file_of(self, path: str) -> str:
-        return os.path.join(self.folder, f"{path}.row")
+        name = "." + hashlib.sha256(os.fsencode(path)).hexdigest()[:40] if path.startswith(BESIDE) else path
+        return os.path.join(self.folder, f"{name}.row")
 
     def files(self) -> Iterator[str]:
         for name in os.listdir(self.folder):
             if name.endswith(".row"):
                 yield os.path.join(self.folder, name)
+
+    def beside(self) -> Iterator[str]:
+        """The paths of what stood beside the folders."""
+        hidden = (file for file in self.files() if os.path.basename(file).startswith("."))
+        for row in filter(None, map(self.load, hidden)):
+            if row.path.startswith(BESIDE):
+                yield row.path
 
 
 def sorts_of(folder: str) -> Tuple[List[str], List[str], int]:
@@ -54,6 +67,17 @@ def inputs_of(desk: Desk, folder: str) -> str:
         seen = entry.stat(follow_symlinks=False)
         parts.append(f"{seen.st_size} {seen.st_mtime_ns} {entry.path}")
     return "\n".join(parts)
+
+
+def row_beside(path: str, place: str) -> Row:
+    """The row of a file, a link or a pipe that stands beside the folders."""
+    row, mode = Row(path, copies=1), os.lstat(place).st_mode
+    if stat.S_ISLNK(mode):
+        row.kind = "link"
+        return row.end(IN_NO_FOLDER, 1, not_followed([os.readlink(place)]))
+    if stat.S_ISREG(mode):
+        return row.end(IN_NO_FOLDER, 1, "it stands beside the folders, and is not taken")
+    return special(row)
 
 
 def name_of_shape(name: str, shape: str) -> str:
@@ -102,19 +126,30 @@ class Folders:
         self.desk = Desk([self.source], self.places, programs, options)
 
     def names(self) -> List[str]:
-        """The folders of this part."""
-        names = [entry.name for entry in os.scandir(self.source) if entry.is_dir(follow_symlinks=False)]
+        """The folders of this part, and the paths of what stands beside folders."""
+        kinds = ((entry.name, trees.kind_of(entry)) for entry in os.scandir(self.source))
+        names = [name if kind == trees.FOLDER else BESIDE + name for name, kind in kinds]
         index, parts = self.options.part
         return sorted(names, key=os.fsencode)[index - 1 :: parts]
 
     def begin(self, _: str) -> Iterator[Tuple[str, Optional[Row]]]:
-        """The folders of this part, each with its row if it has one."""
+        """The names of this part, each with its row if it has one."""
+        self.prune()
         return ((name, self.store.of(name)) for name in self.names())
+
+    def prune(self) -> None:
+        """Takes the rows away of what stands beside the folders no more."""
+        for path in self.store.beside():
+            if not trees.is_no_folder(os.path.join(self.source, path)):
+                self.store.remove(path)
 
     def count(self) -> int:
         return len(self.names())
 
-    def rows_of(self, name: str, folder: str) -> List[Row]:
+    def rows_of(self, name: str) -> List[Row]:
+        folder = os.path.join(self.source, name)
+        if name.startswith(BESIDE):
+            return [row_beside(name, folder)]
         pictures, dicom, other = sorts_of(folder)
         if self.desk.is_late:
             return [self.desk.late(Row(name, "jls" if pictures or not dicom else "dicom", len(pictures) + len(dicom)))]
@@ -124,15 +159,13 @@ class Folders:
         elif rows:
             rows[0].path = name
         if other:
-            rows[0].say(f"{other} other files")
+            rows[0].say("1 other file" if other == 1 else f"{other} other files")
         return rows
 
     def is_done(self, name: str, row: Optional[Row]) -> bool:
         """Whether a folder needs no work: nothing has changed since, and what was written is there."""
-        try:
-            return row is not None and self.desk.is_of(row, inputs_of(self.desk, os.path.join(self.source, name)))
-        except OSError:
-            return False  # it went away meanwhile: `do` says so
+        inputs = self.inputs_now(name)
+        return row is not None and bool(inputs) and self.desk.is_of(row, inputs)
 
     def forget(self, name: str, row: Optional[Row]) -> None:
         """Nothing: `do` takes the rows away itself."""
@@ -150,27 +183,31 @@ class Folders:
         for output in row.outputs if row else []:
             self.places.drop(output)
         self.desk.begin(folder, is_late, {})
-        inputs, rows = self.settle(name, os.path.join(self.source, name))
+        inputs, rows = self.settle(name)
         self.places.store([output for row in rows for output in row.outputs])
         for row in reversed(rows):
             row.inputs = self.desk.inputs(inputs, row)
             self.store.save(row)
         return max(rows, key=lambda row: row.status)
 
-    def settle(self, name: str, source: str) -> Tuple[str, List[Row]]:
+    def settle(self, name: str) -> Tuple[str, List[Row]]:
         """(what the rows of a folder are made of, the rows). One that changed meanwhile is a result, and doesn't end the run."""
-        inputs = self.inputs_now(source)
+        inputs = self.inputs_now(name)
         try:
-            return inputs, self.rows_of(name, source)
+            return inputs, self.rows_of(name)
         except (OSError, ProgramFailed):
-            if self.inputs_now(source) == inputs and inputs:
+            if self.inputs_now(name) == inputs and inputs:
                 raise
             self.places.undo()
-            return "", [Row(name).end("cannot be read", 4, "the folder changed while it was read")]
+            return "", [Row(name).end(CANNOT_BE_READ, 4, "the folder changed while it was read")]
 
-    def inputs_now(self, source: str) -> str:
-        """What the rows of a folder are made of; nothing if it can't be read."""
+    def inputs_now(self, name: str) -> str:
+        """What the rows of a name are made of; nothing if it can't be read."""
+        place = os.path.join(self.source, name)
         try:
-            return inputs_of(self.desk, source)
+            if name.startswith(BESIDE):
+                row = row_beside(name, place)
+                return f"{row.kind} {row.note}"
+            return inputs_of(self.desk, place)
         except OSError:
             return ""

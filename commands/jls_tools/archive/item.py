@@ -1,14 +1,15 @@
 """What becomes of one path of the trees: its row, and what is written of it."""
 from __future__ import annotations
 
+import contextlib
 import errno
 import os
 import shutil
-from typing import Callable, Dict, List, Optional, Sequence, Tuple
+from typing import Callable, Dict, Iterable, List, Optional, Sequence, Tuple
 
 from jls_tools.archive import by_lists, dicom_files, lists, pictures, places, sums, trees
 from jls_tools.archive.desk import Copy, Desk
-from jls_tools.archive.rows import Row
+from jls_tools.archive.rows import CANNOT_BE_READ, Row
 from jls_tools.archive.trees import Item
 from jls_tools.dicom.axis import bad_lists
 from jls_tools.dicom.read.elements import begins_as_dicom, has_prefix
@@ -73,8 +74,23 @@ def read_copies(desk: Desk, item: Item, row: Row) -> List[Copy]:
         except bad_lists.BadList as fault:
             row.end("", 4, lists.note_of(fault))
         except sums.Unreadable as fault:
-            row.end("", 4, f"{printable(desk.labels[tree])} cannot be read: {fault}")
+            row.end("", 4, unread(desk, tree, fault))
     return copies
+
+
+def unread(desk: Desk, tree: int, why: object) -> str:
+    """What a note says of what a tree has and can't be read."""
+    return f"{printable(desk.labels[tree])} {CANNOT_BE_READ}: {why}"
+
+
+def count_readable(desk: Desk, item: Item) -> int:
+    """How many files of a path can be read to their ends."""
+    count = 0
+    for tree in item.trees_with(trees.FILE):
+        with contextlib.suppress(sums.Unreadable):
+            sums.digests(os.path.join(desk.trees[tree], item.path), ())
+            count += 1
+    return count
 
 
 def read_copy(desk: Desk, where: Tuple[int, str], expected: Dict[str, str], first: Optional[Copy]) -> Copy:
@@ -105,7 +121,7 @@ def files(desk: Desk, item: Item, row: Row) -> Row:
     copies = read_copies(desk, item, row)
     row.copies = len(copies)
     if not copies:
-        return row.end("cannot be read", 4)
+        return row.end(CANNOT_BE_READ, 4)
     row.kind = kind_of(item.path, copies)
     if desk.sums.files:
         row.sum = "differs" if item.expected else "not listed"
@@ -156,7 +172,7 @@ def copy_out(desk: Desk, row: Row, copy: Copy) -> List[str]:
 
 
 def link(desk: Desk, item: Item, row: Row) -> Row:
-    """Symbolic links: one that all trees have and that stays in the tree is made anew. None is followed."""
+    """Symbolic links: one that stays in the tree, with one target in all trees that have it, is made anew. None is followed."""
     row.kind = "link"
     targets = {}
     for tree in item.trees_with(trees.LINK):
@@ -164,13 +180,24 @@ def link(desk: Desk, item: Item, row: Row) -> Row:
     row.copies = len(targets)
     shown = sorted({printable(target) for target in targets.values()})
     if any(trees.leads_out(item.path, target) for target in targets.values()):
-        return row.end("leads out", 1, f"a symbolic link to {', '.join(shown)} is not followed, and not copied")
+        return row.end("leads out", 1, not_followed(targets.values()))
     if len(shown) > 1 or len(item.kinds) > len(targets):
         for tree, target in targets.items():
             make_link(desk, row, target, ("differ", os.path.join(desk.labels[tree], item.path)))
         return row.end("differs", 1, f"symbolic links to {', '.join(shown)}" if targets else "")
     make_link(desk, row, next(iter(targets.values())), ("out", item.path))
     return row.end("copied", 0)
+
+
+def not_followed(targets: Iterable[str]) -> str:
+    """What a note says of symbolic links that are left where they are."""
+    return f"a symbolic link to {', '.join(sorted(set(map(printable, targets))))} is not followed, and not copied"
+
+
+def special(row: Row) -> Row:
+    """The row of what is no file, no folder and no link."""
+    row.kind = "special"
+    return row.end("no file", 1, "a pipe, a socket or a device is not copied")
 
 
 def make_link(desk: Desk, row: Row, target: str, place: Tuple[str, str]) -> None:
@@ -203,7 +230,7 @@ def gone(desk: Desk, item: Item) -> List[str]:
             elif kind == trees.LINK:
                 os.readlink(path)
         except OSError as fault:
-            said.append(f"{printable(desk.labels[tree])} cannot be read: {fault.strerror}")
+            said.append(unread(desk, tree, fault.strerror))
     return said
 
 
@@ -219,7 +246,7 @@ def settle(desk: Desk, item: Item) -> Row:
             raise
         desk.places.undo()
         row = Row(item.path, row.kind, len(item.kinds))
-        row.end(*("name too long", 4, "OUT can't have a path so long") if is_long else ("cannot be read", 4, "; ".join(said)))
+        row.end(*("name too long", 4, "OUT can't have a path so long") if is_long else (CANNOT_BE_READ, 4, "; ".join(said)))
     row.inputs = desk.inputs(inputs, row)
     return row
 
@@ -228,8 +255,8 @@ def settle_as_it_is(desk: Desk, item: Item, row: Row) -> Row:
     """The row of a path whose copies stay as they are meanwhile."""
     kinds = set(item.kinds.values())
     if item.faults:
-        row.kind, said = "folder", [f"{printable(desk.labels[tree])} cannot be read: {text}" for tree, text in item.faults]
-        return row.end("cannot be read", 4, "; ".join(said))
+        row.kind, said = "folder", [unread(desk, tree, text) for tree, text in item.faults]
+        return row.end(CANNOT_BE_READ, 4, "; ".join(said))
     if not kinds:
         row.kind, row.sum = "listed", "no file"
         return row.end("not there", 1, "no tree has the file")
@@ -238,6 +265,6 @@ def settle_as_it_is(desk: Desk, item: Item, row: Row) -> Row:
     if kinds == {trees.LINK}:
         return link(desk, item, row)
     if kinds == {trees.SPECIAL}:
-        row.kind, row.copies = "special", len(item.kinds)
-        return row.end("no file", 1, "a pipe, a socket or a device is not copied")
+        row.copies = len(item.kinds)
+        return special(row)
     return mixed(desk, item, row)

@@ -13,7 +13,7 @@ from typing import Any, Iterable, Iterator, List, Optional, Tuple
 
 from jls_tools.archive import claim, folders, ledger, plan, report, trees
 from jls_tools.archive.desk import Desk
-from jls_tools.archive.item import inputs_of, settle
+from jls_tools.archive.item import count_readable, inputs_of, settle
 from jls_tools.archive.ledger import Known, Ledger
 from jls_tools.archive.places import Places, Refused, Work
 from jls_tools.archive.progress import Progress
@@ -65,8 +65,7 @@ class Trees:
 
     def is_there(self, name: str) -> bool:
         """Whether a tree has something of this path that is no folder."""
-        places = (os.path.join(tree, name) for tree in self.trees)
-        return any(os.path.lexists(place) and (os.path.islink(place) or not os.path.isdir(place)) for place in places)
+        return any(trees.is_no_folder(os.path.join(tree, name)) for tree in self.trees)
 
     def items_of(self, tasks: Iterable[plan.Task]) -> Iterator[Tuple[Item, Optional[Row]]]:
         """The items of all parts. Folders without files are made, and rows of paths that are gone are taken away."""
@@ -94,21 +93,29 @@ class Trees:
         return -(-(every - index + 1) // parts)
 
     def is_done(self, item: Item, row: Optional[Row]) -> bool:
-        """Whether an item needs no work: nothing has changed since, and what was written is there."""
-        return row is not None and self.desk.is_of(row, inputs_of(self.desk, item))
+        """Whether an item needs no work: its copies were read, nothing has changed since, and what was written is there."""
+        return row is not None and not row.is_unread and self.desk.is_of(row, inputs_of(self.desk, item))
 
     def forget(self, item: Item, row: Optional[Row]) -> None:
         """Takes the row of an item away that is about to be done anew."""
         if row:
-            item.before = row.outputs
+            item.before = row
             self.store.remove(ledger.name_of(row))
 
     def do(self, item: Item, folder: str, is_late: bool) -> Row:
-        """Settles an item in a worker."""
-        for output in item.before:
-            self.places.drop(output)
+        """Settles an item in a worker. What was written of it goes, unless it is all that can be had."""
         self.desk.begin(folder, is_late, item.expected)
+        before = item.before
+        if before and self.stays(item, before):
+            return before
+        for output in before.outputs if before else []:
+            self.places.drop(output)
         return settle(self.desk, item)
+
+    def stays(self, item: Item, row: Row) -> bool:
+        """Whether a row stays that some copies alone were read for: nothing has changed since, and no more of them can be read now."""
+        is_partly = row.is_unread and bool(row.outputs)
+        return is_partly and self.desk.is_of(row, inputs_of(self.desk, item)) and count_readable(self.desk, item) <= row.copies
 
     def undo(self) -> None:
         self.places.undo()

@@ -108,7 +108,8 @@ def word_for(root: str, name: str, path: str) -> str:
 def summary(totals: Totals, report: str) -> str:
     """What the run came to, in a few lines of text."""
     sums = totals.counts()
-    said = [f"{sums['paths']} paths, {sums['pictures']} of them pictures; {sums['whole']} whole, {sums['not whole']} not"]
+    paths = "1 path" if sums["paths"] == 1 else f"{sums['paths']} paths"
+    said = [f"{paths}, {sums['pictures']} of them pictures; {sums['whole']} whole, {sums['not whole']} not"]
     said.append("lines: " + ", ".join(f"{sums[f'lines {name}']} {name}" for name in ("settled", "missing", "disputed")))
     for result, count, whole in totals.results():
         said.append(f"{count:7} {result}{'' if whole else ', not whole'}")

@@ -19,6 +19,7 @@ FIELDS = (*COLUMNS, *OF_DECISIONS.values())
 TITLES = (*COLUMNS, *OF_DECISIONS)
 PICTURES = ("dicom", "jls", "jlsp")
 TOOK_TOO_LONG = "took too long"
+CANNOT_BE_READ = "cannot be read"  # a result, and what a note says of a copy
 PART = ".part-"  # begins the name of a file that isn't complete; eight letters or digits follow
 
 
@@ -68,6 +69,11 @@ class Row:
         """Adds to the note, on one line."""
         note = " / ".join(line.strip() for line in note.splitlines() if line.strip())
         self.note = "; ".join(part for part in (self.note, note) if part)
+
+    @property
+    def is_unread(self) -> bool:
+        """Whether a copy could not be read, so that another call may read it."""
+        return self.status >= 4 and CANNOT_BE_READ in f"{self.result}; {self.note}"
 
     @property
     def lines(self) -> int:

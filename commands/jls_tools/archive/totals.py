@@ -56,6 +56,7 @@ class Totals:
             self.lines[name] += count * (getattr(row, name) or 0)
         if row.status:
             self.not_whole += count
+        if row.status and row.loss:
             self.worst.add(row)
 
     def results(self) -> List[Tuple[str, int, bool]]:

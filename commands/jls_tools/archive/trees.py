@@ -8,6 +8,7 @@ import stat
 from typing import Dict, Iterator, List, Optional, Sequence, Tuple
 
 from jls_tools.archive import order
+from jls_tools.archive.rows import Row
 
 FILE, LINK, FOLDER, SPECIAL = "file", "link", "folder", "special"
 Kinds = Dict[int, str]  # by tree
@@ -17,7 +18,7 @@ Fault = Tuple[int, str]  # a tree, and why something of it could not be read
 class Item:
     """A relative path, and for each tree (by its index) that has it what stands there. `faults` names trees that could not be read.
 
-    `before` are the files that an earlier run wrote of it, and that go. `expected` are the sums that lists have of it.
+    `before` is the row of an earlier run, whose files go. `expected` are the sums that lists have of it.
     """
 
     __slots__ = ("path", "kinds", "faults", "before", "expected")
@@ -26,7 +27,7 @@ class Item:
         self.path = path
         self.kinds = kinds
         self.faults = list(faults)
-        self.before: List[List[str]] = []
+        self.before: Optional[Row] = None
         self.expected: Dict[str, str] = {}
 
     def trees_with(self, kind: str) -> List[int]:
@@ -59,6 +60,11 @@ def kind_of(entry: os.DirEntry[str]) -> str:
         return FILE if stat.S_ISREG(entry.stat(follow_symlinks=False).st_mode) else SPECIAL
     except FileNotFoundError:
         return FILE
+
+
+def is_no_folder(path: str) -> bool:
+    """Whether something stands there that is no folder. A link to one is none."""
+    return os.path.lexists(path) and (os.path.islink(path) or not os.path.isdir(path))
 
 
 def entries_of(folder: str) -> List[bytes]:
