@@ -73,10 +73,20 @@ def sample_of(text: str) -> int:
     return int(text)
 
 
+class PrintVersion(argparse.Action):
+    """Prints the version of jls-salvage, and ends."""
+
+    def __call__(self, parser: argparse.ArgumentParser, *_: object) -> None:
+        programs = Programs()
+        print(programs.run([programs.salvage, "--version"]).printed, end="")
+        parser.exit()
+
+
 def parser() -> argparse.ArgumentParser:
     top = argparse.ArgumentParser(
         prog="jls-dicom", description=DESCRIPTION, epilog=STATUSES, formatter_class=argparse.RawDescriptionHelpFormatter, allow_abbrev=False
     )
+    top.add_argument("--version", action=PrintVersion, nargs=0, help="print the version of jls-salvage")
     commands = top.add_subparsers(dest="command", metavar="COMMAND", required=True)
     add_mend(commands.add_parser("mend", help="write one file from damaged copies of it", allow_abbrev=False))
     taking = commands.add_parser("frames", help="take the frames of one file out", allow_abbrev=False)
