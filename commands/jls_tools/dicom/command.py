@@ -26,7 +26,7 @@ DESCRIPTION = """jls-dicom mends DICOM files whose frames are JPEG-LS lossless, 
 It calls jls-salvage and jls-splice, and is tested, not proved."""
 STATUSES = """exit status:
   0  done; each frame is whole
-  1  a frame is not whole, or the header is undecided
+  1  a frame is not whole, or the header is undecided or does not read
   2  the command line is wrong
   3  a file is refused, and the line says why
   4  a file can't be read, created or written
