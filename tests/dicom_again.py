@@ -12,9 +12,11 @@ Check = tuple[str, bool]
 def checks_of_again(bench: Bench, made: File) -> Iterator[Check]:
     true, first, second = made.bytes, made.items[0], made.items[1]
     both = [changed(true, (first + 70, bytes(40))), changed(true, (first + 75, bytes(30)))]
-    status, out, _, _, name = bench.mend(both)
+    status, out, printed, _, name = bench.mend(both)
     frames, log = f"{name}.frames", f"{name}.log"
     listed = set(os.listdir(frames))
+    told = printed.endswith(f"\nOUT is not written: frame 0 is not whole\nframes are in {frames}\n")
+    yield f"it is said that OUT is not written ({printed})", told
     yield f"two damaged copies: frames and a log ({status}, {listed})", (status, out) == (1, None) and "frame-0001.jls" in listed
     before = get(log)
     yield "the log has what was printed", before is not None and b"frame 1 whole" in before and b"copy " in before
@@ -52,6 +54,8 @@ def checks_of_again(bench: Bench, made: File) -> Iterator[Check]:
     yield f"a log of the user's: refused ({status}, {faults})", (status, get(name), get(log)) == (4, None, b"my notes\n")
     left = [each for each in os.listdir(bench.folder) if each.startswith(".jls-dicom") or ".part-" in each]
     yield f"nothing of the work stays: {left}", not left
+    lost = bench.mend([changed(each, (second + 70, bytes(40))) for each in both])[2]
+    yield f"it is said how many frames are not whole ({lost})", "\nOUT is not written: 2 frames are not whole\n" in lost
 
 
 def checks_of_names(bench: Bench, made: File) -> Iterator[Check]:

@@ -179,6 +179,8 @@ def mended_lines(
         in_place = "header and frames in their places" if result.is_guessed else "each byte in its place"
         how = in_place if result.in_place else "packed anew"
         yield f"{printable(out)} {how}, sha256 {result.sha256}{', which matched' if result.matched else ''}"
+    if result.is_short_of_frames:
+        yield f"OUT is not written: {result.why_short()}"
     if result.folder:
         yield f"frames are in {printable(result.folder)}"
 

@@ -110,6 +110,7 @@ class Writing:
         elif fault is None and self.options.with_gaps is not None:
             self.store(filled_file(self.frames, self.shape, self.data, self.options.with_gaps), NOT_WHOLE)
         else:
+            self.result.is_short_of_frames = fault is None
             if fault is not None:
                 self.result.notes.append(f"OUT is not written: {fault}")
             self.write_frames()
