@@ -83,6 +83,7 @@ class MendResult:
     frames: list[FrameResult] = field(default_factory=list)
     places: list[Place] = field(default_factory=list)
     versions: VersionTable | None = None
+    characters: str = ""  # Specific Character Set, by which values of places and versions are texts
     is_short_of_frames: bool = False  # OUT isn't written, as frames are not whole
     folder: str | None = None  # where the frames stand that came back, if OUT isn't written
     sha256: str | None = None  # the sum of OUT
