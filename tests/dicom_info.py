@@ -5,7 +5,7 @@ import os
 import random
 from collections.abc import Iterator
 
-from dicom_files import HERE, Bench, File, called, changed, frame
+from dicom_files import HERE, Bench, File, called, changed, frame, get
 
 Check = tuple[str, bool]
 
@@ -106,6 +106,25 @@ def checks_of_info_on_headers(made: File, folder: str) -> Iterator[Check]:
         yield f"info: {what} ({status}, {printed})", status == wanted and {header, found} <= {*lines} and "None" not in printed
 
 
+def checks_of_equal_frames(bench: Bench, made: File) -> Iterator[Check]:
+    """Where no header leads to Pixel Data, equal frames come back each for itself, also where one of them is damaged in each copy."""
+    frames = [made.frames[0], made.frames[0], made.frames[0], made.frames[1]]
+    true = File(frames, 12, 24, 20, stored=16)
+    pixels = true.bytes.index(b"\xe0\x7f\x10\0OB\0\0\xff")
+    lost, first, second = changed(true.bytes, (pixels, bytes(12))), true.items[0] + 90, true.items[1] + 90
+    cases = {
+        "none is damaged": [lost, lost],
+        "one copy": [lost],
+        "others are damaged in each copy": [changed(lost, (first, b"abcdef")), changed(lost, (second + 110, b"ghijkl"))],
+        "one is damaged in both": [changed(lost, (second, b"abcdef")), changed(lost, (second + 110, b"ghijkl"))],
+    }
+    for what, copies in cases.items():
+        status, out, printed, _, name = bench.mend(copies)
+        found = [(get(f"{name}.frames/frame-{number:04}.jls") or b"").rstrip(b"\0") for number in range(9)]
+        counts = [found.count(frame) for frame in frames[2:]]
+        yield f"equal frames: {what} ({status}, {counts}, {printed})", (status, out, counts) == (1, None, [3, 1])
+
+
 def checks_of_unsupported(bench: Bench, work: str, rng: random.Random) -> Iterator[Check]:
     """Copies of a coding that isn't read are refused by name; a frame of one is never filled as a lost one is."""
     stream = frame(rng, 8, 16, 12, work)
@@ -121,4 +140,4 @@ def checks_of_unsupported(bench: Bench, work: str, rng: random.Random) -> Iterat
         yield f"one near-lossless frame, {words}: no OUT ({status}, {printed})", (status, out, told) == (1, None, True)
 
 
-INFO = [checks_of_info, checks_of_info_on_headers, checks_of_unsupported]
+INFO = [checks_of_info, checks_of_info_on_headers, checks_of_equal_frames, checks_of_unsupported]
