@@ -90,7 +90,12 @@ def checks_of_info_on_headers(made: File, folder: str) -> Iterator[Check]:
             f"header: 24x20, 12 bits, samples 1{rest}",
             "frames 4, found by items",
         ),
-        "the header of Pixel Data is zeros": (changed(true, (pixels, bytes(12))), 1, numbers, f"frames 5, found by search{only}"),
+        "the header of Pixel Data is zeros": (
+            changed(true, (icon, bytes(pixels + 12 - icon))),
+            1,
+            numbers,
+            f"frames 4, found by search{only}",
+        ),
         "two headers of items are zeros": (
             changed(true, (made.items[1], bytes(8)), (made.items[2], bytes(8))),
             0,
