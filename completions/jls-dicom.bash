@@ -3,7 +3,7 @@ _jls_dicom() {
     local word=${COMP_WORDS[COMP_CWORD]} before=${COMP_WORDS[COMP_CWORD - 1]} command=${COMP_WORDS[1]:-}
     COMPREPLY=()
     if [ "$COMP_CWORD" -eq 1 ]; then
-        mapfile -t COMPREPLY < <(compgen -W 'mend frames info --help' -- "$word")
+        mapfile -t COMPREPLY < <(compgen -W 'mend frames info --help --version' -- "$word")
         return
     fi
     case "$before" in

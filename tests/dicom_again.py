@@ -4,7 +4,8 @@ from __future__ import annotations
 import os
 from collections.abc import Iterator
 
-from dicom_files import Bench, File, called, changed, get
+from dicom_files import Bench, File, called, changed, element, get
+from jls_tools.dicom.told_values import ToldValues
 
 Check = tuple[str, bool]
 
@@ -12,9 +13,11 @@ Check = tuple[str, bool]
 def checks_of_again(bench: Bench, made: File) -> Iterator[Check]:
     true, first, second = made.bytes, made.items[0], made.items[1]
     both = [changed(true, (first + 70, bytes(40))), changed(true, (first + 75, bytes(30)))]
-    status, out, _, _, name = bench.mend(both)
+    status, out, printed, _, name = bench.mend(both)
     frames, log = f"{name}.frames", f"{name}.log"
     listed = set(os.listdir(frames))
+    told = printed.endswith(f"\nOUT is not written: frame 0 is not whole\nframes are in {frames}\n")
+    yield f"it is said that OUT is not written ({printed})", told
     yield f"two damaged copies: frames and a log ({status}, {listed})", (status, out) == (1, None) and "frame-0001.jls" in listed
     before = get(log)
     yield "the log has what was printed", before is not None and b"frame 1 whole" in before and b"copy " in before
@@ -52,6 +55,8 @@ def checks_of_again(bench: Bench, made: File) -> Iterator[Check]:
     yield f"a log of the user's: refused ({status}, {faults})", (status, get(name), get(log)) == (4, None, b"my notes\n")
     left = [each for each in os.listdir(bench.folder) if each.startswith(".jls-dicom") or ".part-" in each]
     yield f"nothing of the work stays: {left}", not left
+    lost = bench.mend([changed(each, (second + 70, bytes(40))) for each in both])[2]
+    yield f"it is said how many frames are not whole ({lost})", "\nOUT is not written: 2 frames are not whole\n" in lost
 
 
 def checks_of_names(bench: Bench, made: File) -> Iterator[Check]:
@@ -91,4 +96,42 @@ def checks_of_foreign_names(bench: Bench, made: File) -> Iterator[Check]:
         yield f"{name}: what is no name is told ({printed})", told is None or told in printed
 
 
-AGAIN = [checks_of_again, checks_of_names, checks_of_foreign_names]
+def checks_of_told_values(bench: Bench, made: File) -> Iterator[Check]:
+    """Lines show where values differ: UIDs whole and without padding, names in their character set, long values near the difference."""
+    one, two, three = (f"1.2.276.0.7230010.3.1.4.8323329.1.{number}" for number in ("12345.67", "12345.68", "7"))
+    frames = made.frames
+    other, another = (File(frames, 12, 24, 20, uid=uid, stored=16).bytes for uid in (two, three))
+    copies = [File(frames, 12, 24, 20, uid=one, stored=16).bytes, another, other]
+    _, _, printed, _, out = bench.mend(copies, "--same")
+    log = (get(f"{out}.log") or b"").decode("utf-8")
+    for name, text in (("the lines", printed), ("OUT.log", log)):
+        is_told = all(f"'{uid}'" in text for uid in (one, two, three))
+        yield f"{name}: UIDs whole ({text})", is_told and "31 2e" not in text
+    for characters, encoding in (("ISO_IR 100", "latin-1"), ("ISO_IR 192", "utf-8"), ("", "")):
+        names = ["Müller^Jürgen", "Muller^Jürgen Ä"]
+        values = [name.encode(encoding or "latin-1") for name in names]
+        at, old = made.bytes.index(element(0x80008, "CS", "ORIGINAL\\PRIMARY")), element(0x100010, "PN", "Doe^Jane")
+        true = made.bytes[:at] + (element(0x80005, "CS", characters) if characters else b"") + made.bytes[at:]
+        copies = [true.replace(old, element(0x100010, "PN", value)) for value in values]
+        _, _, printed, _, out = bench.mend(copies)
+        log = (get(f"{out}.log") or b"").decode("utf-8")
+        counts = [text.count("'Müller^Jürgen") + text.count("'Muller^Jürgen Ä") for text in (printed, log)]
+        yield f"names in {characters or 'no character set'} ({printed})", counts == ([2, 2] if characters else [0, 0])
+    told = ToldValues(True, "ISO_IR 192")
+    long = ["Ä" * 60 + "one" + "x" * 60, "Ä" * 60 + "two" + "x" * 60, "Ä" * 200 + "y"]
+    shown = told.told("(0008,103e)", [each.encode() for each in long])
+    is_near = all(part in text for part, text in zip(("Äone", "Ätwo", "Ä"), shown))
+    yield f"long texts are shown where they differ ({shown})", is_near and max(map(len, shown)) < 40
+    shown = told.told("(0009,1001)", [bytes(5000) + b"\1" + bytes(50), bytes(5051), bytes(5052)])
+    yield f"long numbers too ({shown})", shown[0] == ".. 00 00 00 00 00 00 00 00 01 00 00 00 00 00 00 00 .." and len(set(shown)) == 3
+    shown = told.told("(0008,0018)", [b"1.2.3\0", b"1.2.3", None, b"1.2.34"])
+    yield f"padding alone ({shown})", len(set(shown)) == 4
+    shown = told.told("(0010,0010)", ["ü".encode()[1:] + b"x", "ä".encode()[1:] + b"x"])
+    yield f"parts of letters ({shown})", shown == ["bc 78", "a4 78"]
+    shown = told.told("(0008,0008)", [b"ORIGINAL\\PRIMARY", b"DERIVED\\PRIMARY "])
+    yield f"several values ({shown})", shown == ["'ORIGINAL\\\\PRIMARY'", "'DERIVED\\\\PRIMARY '"]
+    shown = told.told("(0008,0020)", [b"2020\n131", b"2020\xe4131"])
+    yield f"what is no text ({shown})", shown == ["32 30 32 30 0a 31 33 31", "32 30 32 30 e4 31 33 31"]
+
+
+AGAIN = [checks_of_again, checks_of_names, checks_of_told_values, checks_of_foreign_names]

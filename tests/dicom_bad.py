@@ -184,7 +184,7 @@ def checks_of_one_copy(bench: Bench, made: File, folder: str, rng: random.Random
     true = made.bytes
     status, out, printed, _, name = bench.mend([true])
     is_there = get(f"{name}.frames/frame-0000.jls") == made.frames[0]
-    told = "nothing confirms its header" in printed and "differ" not in printed
+    told = "nothing confirms its header; --header COPY takes it\n" in printed and "differ" not in printed
     yield f"one copy that reads: its frames ({status}, {printed})", (status, out, is_there, told) == (1, None, True, True)
     status, out, printed, _, _ = bench.mend([true], "--header", "COPY0")
     yield f"one copy, --header: the same file ({status}, {printed})", (status, out == true) == (0, True)

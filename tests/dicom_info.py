@@ -5,7 +5,7 @@ import os
 import random
 from collections.abc import Iterator
 
-from dicom_files import HERE, Bench, File, called, changed, frame
+from dicom_files import HERE, Bench, File, called, changed, frame, get
 
 Check = tuple[str, bool]
 
@@ -68,6 +68,68 @@ def checks_of_info(work: str, rng: random.Random) -> Iterator[Check]:
     yield f"info: whole ({status}, {printed})", status == 0 and "damaged" not in printed and "not supported" not in printed
 
 
+def checks_of_info_on_headers(made: File, folder: str) -> Iterator[Check]:
+    """What of a header does not read is told so, at status 1, and frames that a search found are numbered by themselves."""
+    name, true = f"{folder}/header.dcm", made.bytes
+    samples, pixels = true.index(b"\x28\0\x02\0US"), true.index(b"\xe0\x7f\x10\0OB\0\0\xff")
+    icon, count = true.index(b"\x88\0\x00\x02SQ"), true.index(b"\x28\0\x08\0IS")
+    numbers = "header: 24x20, 12 bits, samples 1, frames 4"
+    rest, only = "; the rest does not read", "; numbers count only these"
+    cases: dict[str, tuple[bytes, int, str, str]] = {
+        "nothing is damaged": (true, 0, numbers, "frames 4, found by items"),
+        "its numbers are zeros": (changed(true, (samples, bytes(icon - samples))), 1, "header: does not read", "frames 4, found by items"),
+        "its last numbers are zeros": (
+            changed(true, (count, bytes(icon - count))),
+            1,
+            f"header: samples 1{rest}",
+            "frames 4, found by items",
+        ),
+        "Number of Frames is noise": (
+            changed(true, (count + 8, b"\x84")),
+            1,
+            f"header: 24x20, 12 bits, samples 1{rest}",
+            "frames 4, found by items",
+        ),
+        "the header of Pixel Data is zeros": (
+            changed(true, (icon, bytes(pixels + 12 - icon))),
+            1,
+            numbers,
+            f"frames 4, found by search{only}",
+        ),
+        "two headers of items are zeros": (
+            changed(true, (made.items[1], bytes(8)), (made.items[2], bytes(8))),
+            0,
+            numbers,
+            f"frames 4, found by items, some of which don't read{only}",
+        ),
+    }
+    for what, (data, wanted, header, found) in cases.items():
+        with open(name, "wb") as file:
+            file.write(data)
+        status, printed, _ = called("info", name)
+        lines = printed.splitlines()
+        yield f"info: {what} ({status}, {printed})", status == wanted and {header, found} <= {*lines} and "None" not in printed
+
+
+def checks_of_equal_frames(bench: Bench, made: File) -> Iterator[Check]:
+    """Where no header leads to Pixel Data, equal frames come back each for itself, also where one of them is damaged in each copy."""
+    frames = [made.frames[0], made.frames[0], made.frames[0], made.frames[1]]
+    true = File(frames, 12, 24, 20, stored=16)
+    pixels = true.bytes.index(b"\xe0\x7f\x10\0OB\0\0\xff")
+    lost, first, second = changed(true.bytes, (pixels, bytes(12))), true.items[0] + 90, true.items[1] + 90
+    cases = {
+        "none is damaged": [lost, lost],
+        "one copy": [lost],
+        "others are damaged in each copy": [changed(lost, (first, b"abcdef")), changed(lost, (second + 110, b"ghijkl"))],
+        "one is damaged in both": [changed(lost, (second, b"abcdef")), changed(lost, (second + 110, b"ghijkl"))],
+    }
+    for what, copies in cases.items():
+        status, out, printed, _, name = bench.mend(copies)
+        found = [(get(f"{name}.frames/frame-{number:04}.jls") or b"").rstrip(b"\0") for number in range(9)]
+        counts = [found.count(frame) for frame in frames[2:]]
+        yield f"equal frames: {what} ({status}, {counts}, {printed})", (status, out, counts) == (1, None, [3, 1])
+
+
 def checks_of_unsupported(bench: Bench, work: str, rng: random.Random) -> Iterator[Check]:
     """Copies of a coding that isn't read are refused by name; a frame of one is never filled as a lost one is."""
     stream = frame(rng, 8, 16, 12, work)
@@ -83,4 +145,4 @@ def checks_of_unsupported(bench: Bench, work: str, rng: random.Random) -> Iterat
         yield f"one near-lossless frame, {words}: no OUT ({status}, {printed})", (status, out, told) == (1, None, True)
 
 
-INFO = [checks_of_info, checks_of_unsupported]
+INFO = [checks_of_info, checks_of_info_on_headers, checks_of_equal_frames, checks_of_unsupported]

@@ -4,18 +4,22 @@ import sys
 import jls_salvage
 
 
-def main(out, *names):
-    partials = []
+def partials(names):
+    """What each copy gives. One that gives nothing is named."""
     for number, name in enumerate(names, 1):
         with open(name, "rb") as file:
             copy = file.read()
         try:
-            partials.append(jls_salvage.partial(copy, number))
+            yield jls_salvage.partial(copy, number)
         except jls_salvage.Error as why:
             print(f"{name}: {why}", file=sys.stderr)
-    if not partials:
+
+
+def mend(out, names):
+    found = list(partials(names))
+    if not found:
         return 2
-    picture = jls_salvage.lines(jls_salvage.join(*partials))
+    picture = jls_salvage.lines(jls_salvage.join(*found))
     for component, line in picture.unsettled():
         print(f"component {component}, line {line}")
     if picture.unsettled():
@@ -25,5 +29,16 @@ def main(out, *names):
     return 0
 
 
+def main(words):
+    if len(words) < 2:
+        print(__doc__, file=sys.stderr)
+        return 2
+    try:
+        return mend(words[0], words[1:])
+    except (jls_salvage.Error, OSError) as why:
+        print(why, file=sys.stderr)
+        return 2
+
+
 if __name__ == "__main__":
-    sys.exit(main(*sys.argv[1:]))
+    sys.exit(main(sys.argv[1:]))

@@ -4,7 +4,7 @@
     picture = jls_salvage.read(open("damaged.jls", "rb").read())
     picture.info.missing            # how many lines can't be read
     picture.line(0, 17)             # the samples of a line, or None
-    picture.array()                 # numpy: (height, width), or (height, width, components); lost lines are masked
+    picture.array()                 # wants numpy: (height, width), or (height, width, components); lost lines are masked
 
     mended = jls_salvage.mend([one, other])         # what jls-splice makes of damaged copies
     mended.promise, mended.file, mended.picture     # is the picture promised, the mended file, and what it shows

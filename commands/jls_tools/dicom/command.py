@@ -4,17 +4,18 @@ from __future__ import annotations
 import argparse
 import io
 import os
-import re
 import signal
 import sys
 from collections.abc import Iterator, Sequence
+from dataclasses import replace
 from typing import Optional
 
-from jls_tools.dicom.evidence.terms import is_known
 from jls_tools.dicom.info import frames, info
 from jls_tools.dicom.mend import mend
-from jls_tools.dicom.read.patient_names import can_have_name, has_letters, number_of
+from jls_tools.dicom.read.elements import tag_name
+from jls_tools.dicom.read.tags import CHARACTER_SET
 from jls_tools.dicom.result import FAILED, NOT_WHOLE, USAGE, WHOLE, MendOptions, MendResult, Place, VersionTable
+from jls_tools.dicom.told_values import ToldValues
 from jls_tools.dicom.write.build import USER_MASK
 from jls_tools.dicom.write.outputs import put_log
 from jls_tools.file_names import printable
@@ -26,7 +27,7 @@ DESCRIPTION = """jls-dicom mends DICOM files whose frames are JPEG-LS lossless, 
 It calls jls-salvage and jls-splice, and is tested, not proved."""
 STATUSES = """exit status:
   0  done; each frame is whole
-  1  a frame is not whole, or the header is undecided
+  1  a frame is not whole, or the header is undecided or does not read
   2  the command line is wrong
   3  a file is refused, and the line says why
   4  a file can't be read, created or written
@@ -73,10 +74,20 @@ def sample_of(text: str) -> int:
     return int(text)
 
 
+class PrintVersion(argparse.Action):
+    """Prints the version of jls-salvage, and ends."""
+
+    def __call__(self, parser: argparse.ArgumentParser, *_: object) -> None:
+        programs = Programs()
+        print(programs.run([programs.salvage, "--version"]).printed, end="")
+        parser.exit()
+
+
 def parser() -> argparse.ArgumentParser:
     top = argparse.ArgumentParser(
         prog="jls-dicom", description=DESCRIPTION, epilog=STATUSES, formatter_class=argparse.RawDescriptionHelpFormatter, allow_abbrev=False
     )
+    top.add_argument("--version", action=PrintVersion, nargs=0, help="print the version of jls-salvage")
     commands = top.add_subparsers(dest="command", metavar="COMMAND", required=True)
     add_mend(commands.add_parser("mend", help="write one file from damaged copies of it", allow_abbrev=False))
     taking = commands.add_parser("frames", help="take the frames of one file out", allow_abbrev=False)
@@ -121,54 +132,43 @@ class Progress:
             self.is_open = False
 
 
-def printed_value(value: bytes, letters: int = 24, numbers: int = 16) -> str:
-    """Bytes for a line: as text if they are some, else in hex, the first so many of them."""
-    if not value:
-        return "nothing"
-    short = value[:letters]
-    if re.fullmatch(rb"[\x20-\x5b\x5d-\x7e]+", short):
-        return f"'{short.decode('ascii')}{'..' if len(value) > letters else ''}'"
-    return f"{value[:numbers].hex(' ')}{' ..' if len(value) > numbers else ''}"
-
-
-def told_value(tag: str, value: bytes, has_names: bool, sizes: Sequence[int]) -> str:
-    """Bytes of an element for a line: without names only their count, if they can have one. `sizes` are as printed_value takes them."""
-    is_nameless = not can_have_name(tag) and (not has_letters(value) or is_known(number_of(tag), value))
-    return printed_value(value, *sizes) if has_names or is_nameless else f"{len(value)} bytes"
-
-
-def place_line(place: Place, has_names: bool = True, sizes: Sequence[int] = ()) -> str:
-    """A place where copies differ. `sizes` are those of values, as printed_value takes them."""
-    shown = [told_value(place.tag, value, has_names, sizes) for _, value in place.values]
+def place_line(place: Place, values: ToldValues) -> str:
+    """A place where copies differ."""
+    shown = values.told(place.tag, [value for _, value in place.values])
     names = [", ".join(printable(name) for name in holders) or "none" for holders, _ in place.values]
-    values = [f"{name}: {value}" for name, value in zip(names, shown)]
+    lines = [f"{name}: {value}" for name, value in zip(names, shown)]
     verdict = "undecided" if place.taken is None else f"taken: {shown[place.taken]} ({place.why})"
-    return f"differ {place.offset} {place.length} {place.tag}, {verdict}; {'; '.join(values)}"
+    return f"differ {place.offset} {place.length} {place.tag}, {verdict}; {'; '.join(lines)}"
 
 
-def version_lines(table: VersionTable, has_names: bool = True, sizes: Sequence[int] = ()) -> Iterator[str]:
+def version_lines(table: VersionTable, told: ToldValues) -> Iterator[str]:
     """The headers that read whole, and a line for each tag where they differ."""
     counts = [f"{len(paths)} {'copy' if len(paths) == 1 else 'copies'}" for _, paths in table.versions]
     copies = [f"{name}: {count}, {', '.join(map(printable, paths))}" for count, (name, paths) in zip(counts, table.versions)]
     yield f"versions, {'undecided' if table.taken is None else f'taken: {table.taken}'}; {'; '.join(copies)}"
+    if any(tag == tag_name(CHARACTER_SET) for tag, _ in table.rows):
+        told = replace(told, characters="")
     for tag, values in table.rows:
-        shown = ["no element" if value is None else told_value(tag, value, has_names, sizes) for value in values]
-        yield f"version {tag}, {'; '.join(f'{name}: {each}' for (name, _), each in zip(table.versions, shown))}"
+        shown = zip(table.versions, told.told(tag, values))
+        yield f"version {tag}, {'; '.join(f'{name}: {each}' for (name, _), each in shown)}"
 
 
 def mended_lines(
     result: MendResult, out: str, is_quiet: bool = False, has_names: bool = True, sizes: Sequence[int] = ()
 ) -> Iterator[str]:
-    """What a run came to, a line for each copy that was left out, place, frame and note."""
+    """What a run came to, a line for each copy that was left out, place, frame and note. `sizes` are those of values (ToldValues)."""
+    values = ToldValues(has_names, result.characters, *sizes)
     yield from (f"left out {printable(path)}: {why}" for path, why in result.left_out)
-    yield from (place_line(place, has_names, sizes) for place in result.places if not (is_quiet and place.is_decided))
-    yield from version_lines(result.versions, has_names, sizes) if result.versions else ()
+    yield from (place_line(place, values) for place in result.places if not (is_quiet and place.is_decided))
+    yield from version_lines(result.versions, values) if result.versions else ()
     yield from (frame.line() for frame in result.frames if not (is_quiet and frame.kind == "whole"))
     yield from map(printable, result.notes)
     if result.written:
         in_place = "header and frames in their places" if result.is_guessed else "each byte in its place"
         how = in_place if result.in_place else "packed anew"
         yield f"{printable(out)} {how}, sha256 {result.sha256}{', which matched' if result.matched else ''}"
+    if result.is_short_of_frames:
+        yield f"OUT is not written: {result.why_short()}"
     if result.folder:
         yield f"frames are in {printable(result.folder)}"
 
@@ -231,7 +231,7 @@ def main(arguments: Sequence[str]) -> int:
         signal.signal(number, stop)
     for stream in (sys.stdout, sys.stderr):
         if isinstance(stream, io.TextIOWrapper):
-            stream.reconfigure(errors="surrogateescape")
+            stream.reconfigure(errors="backslashreplace")
     os.umask(0o077)
     try:
         return run(parser().parse_args(arguments))

@@ -64,10 +64,10 @@ class Layout:
         return best
 
     def frame_count(self) -> Optional[int]:
-        """Number of Frames, as far as any copy has a number there that can be true; None if copies have several."""
+        """Number of Frames, as far as any copy has a number there that can be true; None if copies have several, or lost it."""
         element = next((element for element in self.structure.elements if element.tag == FRAMES), None)
         if element is None:
-            return 1
+            return None if self.structure.can_hide(FRAMES) else 1
         found = set()
         for copy in self.copies:
             text = element.bytes_of(copy.data).strip(b" \0")

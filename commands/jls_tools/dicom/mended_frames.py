@@ -1,7 +1,7 @@
 """Chosen copies on one axis, and each of their frames mended."""
 from __future__ import annotations
 
-from collections.abc import Sequence
+from collections.abc import Iterator, Sequence
 from typing import Optional
 
 from jls_tools.dicom.axis.align import merged
@@ -14,7 +14,7 @@ from jls_tools.dicom.evidence.witnessed import resting, why_denied
 from jls_tools.dicom.layout import is_through, laid_out
 from jls_tools.dicom.read.elements import DELIMITER
 from jls_tools.dicom.result import NOT_SUPPORTED, FrameResult, Unsupported
-from jls_tools.dicom.walk.frames import FramePlace, by_search, paired_by_bytes
+from jls_tools.dicom.walk.frames import FramePlace, Searched, by_search, paired_by_bytes
 from jls_tools.dicom.walk.lost import Lost, equal_in_most, most_of
 from jls_tools.dicom.witnessed_frames import WitnessedFrames
 from jls_tools.frames.codestream import EOI_AND_PADDING, without_padding
@@ -40,7 +40,7 @@ class MendedFrames:
         filled = self.own
         self.kept: dict[int, list[bytes]] = {}
         self.rivals: dict[int, list[bytes]] = {}  # for each frame what copies have in an item of their own there
-        self.origins: dict[bytes, tuple[int, Range]] = {}  # of streams that are found by search: the copy, and where they stand in it
+        self.searched: list[list[Searched]] = []  # of each frame what a search found
         if self.layout.has_header and is_through(self.layout.structure):
             lost = Lost(self.copies, self.layout)
             texts = lost.filled()
@@ -49,7 +49,8 @@ class MendedFrames:
             self.rivals = {place.number: lost.other_frames(place) for place in self.layout.places}
         self.streams = [list(dict.fromkeys(own.values())) for own in filled]
         if not self.layout.places:
-            self.streams = paired_by_bytes([self.searched(at) for at in chosen])
+            self.searched = paired_by_bytes(found for at in chosen for found in self.search(at))
+            self.streams = [[found.stream for found in group] for group in self.searched]
             self.own = [dict(enumerate(streams)) for streams in self.streams]
         self.bad_in_all, self.seen_in_all = in_no_copy(self.copies), in_no_copy(self.copies, True)
         self.take_others()
@@ -145,23 +146,20 @@ class MendedFrames:
         other = self.mender.mend_aside(number, kept, begin, KEPT)
         return other if other.is_whole else mended
 
-    def searched(self, at: int) -> list[bytes]:
+    def search(self, at: int) -> Iterator[Searched]:
         """The streams of a copy that begin as frames do. A foreign beginning has frames of its own."""
         text, start = self.given.texts[at], self.given.instances.rests.get(at, (0, 0))[0]
-        found = []
         for begin, end in by_search(text[start:]):
-            found.append(text[start + begin : start + end])
-            self.origins[found[-1]] = (at, (start + begin, start + end))
-        return found
+            yield Searched(text[start + begin : start + end], at, start + begin, start + end)
 
     def beside_bad(self, mended: Mended, streams: list[bytes]) -> Mended:
         """A frame as it is mended, or what there is of it beside bytes that are bad in all copies."""
         number = mended.result.number
         if not self.layout.places:
-            known = [self.origins[stream] for stream in streams]
-            lists = [[within(self.given.bad[at], [part]), within(self.given.seen[at], [part])] for at, part in known]
+            known = [(found.copy, [(found.begin, found.end)]) for found in self.searched[number]]
+            lists = [[within(self.given.bad[at], parts), within(self.given.seen[at], parts)] for at, parts in known]
             bad = in_all([merged([*listed, *seen]) for listed, seen in lists])
-            places = [(begin + known[0][1][0], end) for begin, end in bad]
+            places = [(begin + self.searched[number][0].begin, end) for begin, end in bad]
             is_sure = bool(in_all([listed for listed, _ in lists]))
         else:
             parts = self.layout.places[number].fragments

@@ -83,6 +83,8 @@ class MendResult:
     frames: list[FrameResult] = field(default_factory=list)
     places: list[Place] = field(default_factory=list)
     versions: VersionTable | None = None
+    characters: str = ""  # Specific Character Set, by which values of places and versions are texts
+    is_short_of_frames: bool = False  # OUT isn't written, as frames are not whole
     folder: str | None = None  # where the frames stand that came back, if OUT isn't written
     sha256: str | None = None  # the sum of OUT
     matched: bool = False  # --sha256 matched
@@ -91,6 +93,11 @@ class MendResult:
     notes: list[str] = field(default_factory=list)
     refusal: str | None = None
     is_unsupported: bool = False  # refused for what these programs don't read: nothing says that it is damaged
+
+    def why_short(self) -> str:
+        """Which frames are not whole."""
+        lost = [frame.number for frame in self.frames if frame.kind != "whole"]
+        return f"frame {lost[0]} is not whole" if len(lost) == 1 else f"{len(lost)} frames are not whole"
 
     def count(self, kind: str) -> int:
         return sum(frame.kind == kind for frame in self.frames)

@@ -2,9 +2,9 @@
 from __future__ import annotations
 
 import bisect
-from collections.abc import Sequence
+from collections.abc import Iterable, Sequence
 from dataclasses import dataclass
-from typing import TYPE_CHECKING, Optional
+from typing import TYPE_CHECKING, NamedTuple, Optional
 
 from jls_tools.dicom.axis.align import Copy
 from jls_tools.dicom.read.elements import DELIMITER, ITEM_TAG, UNDEFINED
@@ -131,16 +131,49 @@ def pieces_of(stream: bytes, size: int = 32) -> set[bytes]:
     return {stream[at : at + size] for at in range(64, len(stream) - size, size)}
 
 
-def paired_by_bytes(streams: list[list[bytes]]) -> list[list[bytes]]:
-    """Streams of several copies, [[of the first], [of the second], ..], together where they have pieces in common: lists of streams."""
-    groups: list[tuple[set[bytes], list[bytes]]] = []
-    for own in streams:
-        for stream in own:
-            mine = pieces_of(stream)
-            likeness, group = max(((len(mine & group[0]), at) for at, group in enumerate(groups)), default=(0, None))
-            if group is not None and likeness and likeness * 4 >= min(len(mine), len(groups[group][0])):
-                groups[group][1].append(stream)
-                groups[group][0].update(mine)
-            else:
-                groups.append((set(mine), [stream]))
-    return [streams for _, streams in groups]
+class Searched(NamedTuple):
+    """A stream that a search found in a copy."""
+
+    stream: bytes
+    copy: int
+    begin: int
+    end: int
+
+
+def are_alike(mine: set[bytes], others: set[bytes]) -> bool:
+    count = len(mine & others)
+    return count > 0 and count * 4 >= min(len(mine), len(others))
+
+
+class Group:
+    """Streams of several copies that are of one frame, and their pieces."""
+
+    def __init__(self) -> None:
+        self.pieces: set[bytes] = set()
+        self.found: list[Searched] = []
+        self.last: set[bytes] = set()  # the pieces of the last copy's streams
+
+    def has_copy(self, copy: int) -> bool:
+        return bool(self.found) and self.found[-1].copy == copy
+
+    def likeness(self, found: Searched, mine: set[bytes]) -> int:
+        """How many pieces of a stream the frame has; none if one of the same copy has them too: that is of another frame."""
+        return 0 if self.has_copy(found.copy) and are_alike(mine, self.last) else len(mine & self.pieces)
+
+    def add(self, found: Searched, mine: set[bytes]) -> None:
+        self.last = self.last | mine if self.has_copy(found.copy) else mine
+        self.pieces |= mine
+        self.found.append(found)
+
+
+def paired_by_bytes(searched: Iterable[Searched]) -> list[list[Searched]]:
+    """Streams of one copy after the other, together where they have pieces in common. Those of one copy that do are of several frames."""
+    groups: list[Group] = []
+    for found in searched:
+        mine = pieces_of(found.stream)
+        group = max(groups, key=lambda each: each.likeness(found, mine), default=None)
+        if group is None or not (group.likeness(found, mine) and are_alike(mine, group.pieces)):
+            group = Group()
+            groups.append(group)
+        group.add(found, mine)
+    return [group.found for group in groups]

@@ -101,6 +101,12 @@ class Structure:
     def pixel_data(self) -> Optional[Element]:
         return next((element for element in self.elements if element.tag == PIXEL_DATA), None)
 
+    def can_hide(self, tag: int) -> bool:
+        """Whether a place from which no way goes on stands where an element of the top level would be."""
+        first = max((element.start for element in self.elements if element.tag < tag), default=0)
+        last = min((element.start for element in self.elements if element.tag > tag), default=self.walk.total)
+        return any(first < begin < last for begin, _ in self.jumps)
+
     @property
     def descends(self) -> bool:
         """Whether an element follows one of a tag that is not lower (PS3.5, 7.1)."""

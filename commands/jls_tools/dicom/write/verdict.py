@@ -40,7 +40,7 @@ class Verdict:
         if fault is not None:
             return fault
         if self.frames.is_alone and self.given.options.header is None:
-            return "one copy alone is left, and nothing confirms its header"
+            return "one copy alone is left, and nothing confirms its header; --header COPY takes it"
         if not self.layout.has_header:
             return "no copy has a header that leads to Pixel Data"
         if self.header.is_open:

@@ -11,6 +11,7 @@ from jls_tools.dicom.copies.given import Given
 from jls_tools.dicom.evidence.denials import has_shape, shape_said
 from jls_tools.dicom.evidence.witnessed import by_witnesses
 from jls_tools.dicom.mended_frames import MendedFrames
+from jls_tools.dicom.read.tags import CHARACTER_SET
 from jls_tools.dicom.result import NOT_WHOLE, WHOLE, Refused
 from jls_tools.dicom.write.build import packed, put_frames, store
 from jls_tools.dicom.write.by_sum import BySum
@@ -57,6 +58,7 @@ class Writing:
         else:
             self.without_sum()
         self.result.places = self.header.places()
+        self.result.characters = self.header.text(CHARACTER_SET) or ""
         self.result.versions = self.given.versions.told(self.given.paths)
 
     def deny_other_shapes(self) -> None:
@@ -110,6 +112,7 @@ class Writing:
         elif fault is None and self.options.with_gaps is not None:
             self.store(filled_file(self.frames, self.shape, self.data, self.options.with_gaps), NOT_WHOLE)
         else:
+            self.result.is_short_of_frames = fault is None
             if fault is not None:
                 self.result.notes.append(f"OUT is not written: {fault}")
             self.write_frames()
