@@ -14,7 +14,7 @@ use std::alloc::{AllocError, Global};
 const ROWS_BEHIND: usize = 2;
 
 /// The reading of a line by a piece of a copy.
-fn reading_by(copy: &CopyState<'_>, index: usize, place: usize) -> Option<usize> {
+pub(crate) fn reading_by(copy: &CopyState<'_>, index: usize, place: usize) -> Option<usize> {
     let claim = copy.claim(place)?;
     if claim.piece == index {
         Some(claim.reading)

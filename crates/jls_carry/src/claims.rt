@@ -25,12 +25,20 @@ pub(crate) struct Claim {
 /// How far a piece was read.
 #[derive(Drop)]
 pub(crate) struct Progress {
-    /// How many of its first lines were known.
-    taken: Option<usize>,
+    /// The readings of its first lines that were known.
+    taken: Option<Vec<usize>>,
     /// The shift behind them.
     pub(crate) shift: Shift,
     /// The readings of these lines, and a decoder that was given the bytes that their code fills.
     known: Option<Known>,
+}
+
+/// Whether a piece was read behind these readings of its first lines.
+fn is_taken(progress: &Progress, readings: &[usize]) -> bool {
+    match &progress.taken {
+        Some(taken) => *taken.as_slice() == *readings,
+        None => false,
+    }
 }
 
 /// First lines of a piece that are known.
@@ -316,7 +324,7 @@ impl<'a> CopyState<'a> {
         Ok(())
     }
 
-    /// Reads a piece on from what is known, if more is known than before.
+    /// Reads a piece on from what is known, if that isn't what was known before.
     fn read_piece(
         &mut self,
         alloc: Global,
@@ -329,10 +337,10 @@ impl<'a> CopyState<'a> {
         let Some(progress) = self.progress.get_mut(index) else {
             return Ok(());
         };
-        if progress.taken == Some(readings.len()) {
+        if is_taken(progress, &readings) {
             return Ok(());
         }
-        progress.taken = Some(readings.len());
+        progress.taken = Some(Vec::from_slice(alloc, &readings)?);
         if readings.len() == piece.interval.line_count() {
             self.claim_known(index, piece, &readings);
             return Ok(());

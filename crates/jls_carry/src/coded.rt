@@ -65,7 +65,7 @@ impl Coded {
     }
 
     /// How many lines end before a place.
-    fn lines_before(&self, place: usize) -> usize {
+    pub(crate) fn lines_before(&self, place: usize) -> usize {
         if self.is_whole && place >= self.bytes.len() {
             self.ends.count()
         } else {

@@ -18,6 +18,7 @@
 //! - `settling`, `choosing`: which lines are settled. Which of several readings of a line is taken
 //! - `between`, `closing`: lines between settled ones, and pieces that close by themselves
 //! - `trials`: lines that are supposed, so that a copy reads on behind them
+//! - `weighing`: pieces that close with a flipped bit, told by how many bytes are wrong either way
 //! - `rounds`: all of that, until nothing more is decided
 //! - `mending`, `codings`, `edits`: the mended file of each coding, and the edits that make it of each copy
 //! - `rivals`: copies that read to their ends, and say otherwise
@@ -52,6 +53,9 @@
 //!     behind them at each place near. What it says is taken up to a run of the first copy behind its own damage. A disputed line is
 //!     settled so only if the other copy, by its own reading of it, breaks off before. Nothing is supposed if a copy says a disputed line
 //!     in a piece that closes.
+//! 11. Where a piece closes, and another copy says otherwise, wrong bytes are counted either way: those of each, in which the lines of the
+//!     other are coded. If they are two of the piece at most, and else 8 or more, and four times as many, its bits are flipped. What the
+//!     other says is taken then, unless a third copy denies it in a piece that closes.
 //!
 //! Where two copies have the same code, that code anew says nothing of its truth: garbage, coded anew, is the same garbage. There only what
 //! agrees from the start of an interval on is taken. Nothing else may go on, and no copy of another coding may say otherwise. It gives way
@@ -91,6 +95,7 @@ mod settling;
 mod shifts;
 mod strangers;
 mod trials;
+mod weighing;
 
 use crate::claims::{CopyState, Speaker};
 use crate::closing::has_contradiction;

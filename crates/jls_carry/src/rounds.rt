@@ -8,6 +8,7 @@ use crate::codes::Codes;
 use crate::picture::Picture;
 use crate::settling::{Hints, Links, Settling, Tested};
 use crate::trials::settle_tried;
+use crate::weighing::settle_weighed;
 use std::alloc::{AllocError, Global};
 
 /// How many rounds there are at most.
@@ -79,7 +80,8 @@ fn go_on(
         || settling.settle_hinted(picture, Hints::Long)?
         || settle_closed(alloc, picture, copies, &settling.chains, &settling.links)?
         || settling.settle_hinted(picture, Hints::Short)?
-        || settle_tried(alloc, picture, copies, &tested, &settling.chains)?;
+        || settle_tried(alloc, picture, copies, &tested, &settling.chains)?
+        || settle_weighed(alloc, picture, copies)?;
     let Settling { links: now, .. } = settling;
     *links = now;
     Ok(is_any)
