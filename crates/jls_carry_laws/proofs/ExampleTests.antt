@@ -45,11 +45,11 @@ or_right_of : (x y : Bool) → (not x || y) ≡ true → x ≡ true → y ≡ tr
 or_right_of true y e is = e
 or_right_of false y e is = absurd (true≢false (sym is))
 
--- all bytes of a line's code are held, if its code begins and ends with these bits
-pub code_of_test : (f : MendedFile) (offset : ℕ) (i : PieceShape) (piece : List ℕ) (before : List (List ℕ)) (line : List ℕ) (start end : ℕ)
-    → code_length i before ≡ start → code_length i (before ++ line ∷ []) ≡ end → code_test f offset piece start end ≡ true
-    → (place : ℕ) → IsByteOf i piece before line place → IsHeldByte f (offset + place)
-code_of_test f offset i piece before line start end starts ends test place b =
+-- all bytes of the code of lines are held, if it begins and ends with these bits
+pub code_of_test : (f : MendedFile) (offset : ℕ) (i : PieceShape) (piece : List ℕ) (before lines : List (List ℕ)) (start end : ℕ)
+    → code_length i before ≡ start → code_length i (before ++ lines) ≡ end → code_test f offset piece start end ≡ true
+    → (place : ℕ) → IsByteOf i piece before lines place → IsHeldByte f (offset + place)
+code_of_test f offset i piece before lines start end starts ends test place b =
     let low : bits_before piece place < end = subst (λ n. bits_before piece place < n) ends b.begins_before_its_end in
     let high : start < bits_before piece (place + 1) = subst (λ n. n < bits_before piece (place + 1)) starts b.ends_after_its_begin in
     or_right_of (carries piece start end place) (get_or f.held (offset + place) false)

@@ -1,5 +1,5 @@
 pub mod Walk
-pub mod OneLine
+pub mod OneCode
 pub mod PlacedLines
 pub mod HeldLines
 pub mod EditedFiles

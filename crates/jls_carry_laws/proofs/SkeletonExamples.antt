@@ -27,12 +27,13 @@ use Rattle.jls_piece.specs.Reads.{Reads}
 use Rattle.jls_partial.specs.Reading.{Reading, reading_of}
 use Rattle.jls_marker.specs.ComponentIndex.{index_of}
 use Rattle.jls_marker.specs.MarkerCodes.{has_segment}
-use Rattle.jls_marker.specs.HeaderState.{HeaderState, no_headers}
+use Rattle.jls_marker.specs.HeaderState.{HeaderState, no_headers_under}
+use Rattle.jls_marker.specs.declared.profile.Profile.TheVariants.{Wide}
 use Rattle.jls_marker.specs.Headers.{headers_after}
 use Rattle.jls_marker.specs.Scan.{Scan}
 use Rattle.jls_copy.specs.Numbers.{Interval}
 use Rattle.jls_copy.specs.IntervalOf.{interval_of}
-use Rattle.jls_copy.specs.Course.{by_marker, CopyUnit, segment, scan, Course, IsCourse, with_soi, at_eoi, for_good}
+use Rattle.jls_copy.specs.Course.{by_marker, CopyUnit, segment, scan, Course, IsCourseUnder, with_soi, at_eoi, for_good}
 use Rattle.jls_copy.specs.Pieces.{FoundPiece, pieces}
 use Rattle.jls_copy.specs.declared.end.End.TheVariants.{Eoi}
 use Rattle.jls_copy.proofs.OneCourse.{one_course}
@@ -90,7 +91,7 @@ other = (edited 0 copy (lost hidden)).bytes
 -- Their courses -----------------------------------------------------------------------------------------
 
 abbrev framed : HeaderState
-framed = record no_headers { frame = Some shape }
+framed = record (no_headers_under Wide) { frame = Some shape }
 
 abbrev restarting : HeaderState
 restarting = record framed { restart_interval = 1 }
@@ -111,7 +112,7 @@ mended_course = record { begin = 2; units = units line_bytes; headers = final; e
 abbrev other_course : Course
 other_course = record { begin = 2; units = units (0xF0 ∷ []); headers = final; end = Eoi 35 }
 
-mended_is : IsCourse mended.bytes mended_course
+mended_is : IsCourseUnder Wide mended.bytes mended_course
 unfolding headers_after index_of has_segment
 mended_is =
     with_soi 0 _ (units line_bytes) final (Eoi 45) (
@@ -143,7 +144,7 @@ mended_is =
 abbrev unread_rest : List ℕ
 unread_rest = 0xFF ∷ 0xD0 ∷ 0xC0 ∷ 0x00 ∷ 0x00 ∷ 0x6C ∷ 0x80 ∷ 0x20 ∷ 0xFF ∷ 0xD9 ∷ []
 
-other_is : IsCourse other other_course
+other_is : IsCourseUnder Wide other other_course
 unfolding headers_after index_of has_segment
 other_is =
     with_soi 0 _ (units (0xF0 ∷ [])) final (Eoi 35) (
@@ -249,9 +250,9 @@ line_begins = record { at_most = lit≤ tt; unread = line_reads.unread; begins =
 row_1_is_held : IsHeld (mended ∷ []) (reading_of 0 1 line)
 unfolding bits_read_after ends_data bits width_after
 row_1_is_held =
-    in_piece mended (0, lit< tt, refl) in_second [] line line_begins
-    (code_of_test mended 39 (interval_of plan 1) line_bytes [] line 0 45 computed.no_bits computed.bits_of_line refl) [] (reading_of 0 1 line) refl
-    (λ s among. absurd (none_in s among))
+    in_piece mended (0, lit< tt, refl) in_second [] (line ∷ []) refl line_begins
+    (code_of_test mended 39 (interval_of plan 1) line_bytes [] (line ∷ []) 0 45 computed.no_bits computed.bits_of_line refl)
+    (λ s among. absurd (none_in s among)) (reading_of 0 1 line) (0, lit< tt, refl)
 
 -- The other file ----------------------------------------------------------------------------------------
 
@@ -319,7 +320,7 @@ without_skeletons_is_false law =
 -- A true file with the skeleton ----------------------------------------------------------------------------
 
 -- a file has its own skeleton
-pub own_skeleton : (f : MendedFile) (c : Course) → IsCourse f.bytes c → (p : PieceOf f) → HasHead c f p
+pub own_skeleton : (f : MendedFile) (c : Course) → IsCourseUnder Wide f.bytes c → (p : PieceOf f) → HasHead c f p
 own_skeleton f c is p = record {
   piece = p.piece;
   among = subst (λ d. Contains (pieces d) p.piece) (one_course f.bytes p.course c p.is_course is) p.among;
@@ -378,7 +379,6 @@ before_first = record {
 -- the line of row 0 is strictly held
 row_0_is_strictly_held : IsStrictlyHeld (intact ∷ []) (reading_of 0 0 line)
 row_0_is_strictly_held =
-    in_file intact (0, lit< tt, refl) in_first [] line
-    line_begins
-    (λ place b. let l = b.within in get_or-replicate 47 (31 + place) true false (omega (arith, l))) [] (reading_of 0 0 line) refl before_first
-    (λ s among. absurd (none_in s among)) (λ s among. absurd (none_in s among))
+    in_file intact (0, lit< tt, refl) in_first [] (line ∷ []) refl line_begins
+    (λ place b. let l = b.within in get_or-replicate 47 (31 + place) true false (omega (arith, l))) before_first
+    (λ s among. absurd (none_in s among)) (λ s among. absurd (none_in s among)) (reading_of 0 0 line) (0, lit< tt, refl)

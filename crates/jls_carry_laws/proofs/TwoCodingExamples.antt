@@ -28,12 +28,13 @@ use Rattle.jls_piece.specs.Reads.{Reads}
 use Rattle.jls_partial.specs.Reading.{Reading, reading_of}
 use Rattle.jls_marker.specs.ComponentIndex.{index_of}
 use Rattle.jls_marker.specs.MarkerCodes.{has_segment}
-use Rattle.jls_marker.specs.HeaderState.{HeaderState, no_headers}
+use Rattle.jls_marker.specs.HeaderState.{HeaderState, no_headers_under}
+use Rattle.jls_marker.specs.declared.profile.Profile.TheVariants.{Wide}
 use Rattle.jls_marker.specs.Headers.{headers_after}
 use Rattle.jls_marker.specs.Scan.{Scan}
 use Rattle.jls_copy.specs.Numbers.{Interval}
 use Rattle.jls_copy.specs.IntervalOf.{interval_of}
-use Rattle.jls_copy.specs.Course.{by_marker, CopyUnit, segment, scan, Course, IsCourse, with_soi, at_eoi, for_good}
+use Rattle.jls_copy.specs.Course.{by_marker, CopyUnit, segment, scan, Course, IsCourseUnder, with_soi, at_eoi, for_good}
 use Rattle.jls_copy.specs.Pieces.{pieces}
 use Rattle.jls_copy.specs.declared.end.End.TheVariants.{Eoi}
 use Rattle.jls_held.specs.MendedFiles.{MendedFile, IsHeldByte}
@@ -142,7 +143,7 @@ abbrev lines : Scan
 lines = record { components = 0 ∷ 1 ∷ []; params = bits_16; width = 2; height = 2; restart_interval = 0; by_sample = false }
 
 abbrev framed : HeaderState
-framed = record no_headers { frame = Some shape }
+framed = record (no_headers_under Wide) { frame = Some shape }
 
 abbrev scanned : ℕ → HeaderState
 scanned count = record framed { scans = count }
@@ -185,7 +186,7 @@ plane_course first second end = record { begin = 2; units = plane_units first se
 abbrev line_course : List ℕ → ℕ → Course
 line_course piece end = record { begin = 2; units = line_units piece; headers = scanned 1; end = Eoi end }
 
-by_plane_is : IsCourse by_plane.bytes (plane_course first_plane second_plane 66)
+by_plane_is : IsCourseUnder Wide by_plane.bytes (plane_course first_plane second_plane 66)
 unfolding headers_after index_of has_segment
 by_plane_is =
     with_soi 0 _ (plane_units first_plane second_plane) (scanned 2) (Eoi 66) (
@@ -220,7 +221,7 @@ by_plane_is =
       ),
     )
 
-by_line_is : IsCourse by_line.bytes (line_course both_lines 56)
+by_line_is : IsCourseUnder Wide by_line.bytes (line_course both_lines 56)
 unfolding headers_after index_of has_segment
 by_line_is =
     with_soi 0 _ (line_units both_lines) (scanned 1) (Eoi 56) (
@@ -254,7 +255,7 @@ line_rest =
     0x62 ∷ 0x20 ∷ 0x00 ∷ 0x00 ∷ 0x00 ∷ 0x00 ∷ 0x00 ∷ 0x3B ∷ 0x1D ∷ 0xE0 ∷ 0x00 ∷ 0x00 ∷ 0x00 ∷ 0x3C ∷ 0xEA ∷ 0x02
     ∷ 0xC0 ∷ 0x02 ∷ 0xFF ∷ 0xD9 ∷ []
 
-plane_other_is : IsCourse plane_other (plane_course other_first other_second 45)
+plane_other_is : IsCourseUnder Wide plane_other (plane_course other_first other_second 45)
 unfolding headers_after index_of has_segment
 plane_other_is =
     with_soi 0 _ (plane_units other_first other_second) (scanned 2) (Eoi 45) (
@@ -295,7 +296,7 @@ plane_other_is =
       ),
     )
 
-line_other_is : IsCourse line_other (line_course other_both 36)
+line_other_is : IsCourseUnder Wide line_other (line_course other_both 36)
 unfolding headers_after index_of has_segment
 line_other_is =
     with_soi 0 _ (line_units other_both) (scanned 1) (Eoi 36) (
@@ -426,9 +427,9 @@ unfolding least_from bits value_of_bits width_after golomb quantized_gradient is
     golomb_k updated run_updated events_from events_after cell_before run_cell_before block_columns full_blocks blocks run_index_before
     event_bits bits_of_events code bits_read_after is_whole_after ends_data
 first_0_is_held =
-    in_piece by_line (1, lit< tt, refl) in_lines [] first_0 begun.first_by_line
-    (code_of_test by_line 30 (interval_of lines 0) both_lines [] first_0 0 32 computed.none_by_line computed.one_by_line refl)
-    [] (reading_of 0 0 first_0) refl (λ s among. absurd (none_in s among))
+    in_piece by_line (1, lit< tt, refl) in_lines [] (first_0 ∷ []) refl begun.first_by_line
+    (code_of_test by_line 30 (interval_of lines 0) both_lines [] (first_0 ∷ []) 0 32 computed.none_by_line computed.one_by_line refl)
+    (λ s among. absurd (none_in s among)) (reading_of 0 0 first_0) (0, lit< tt, refl)
 
 -- the second component, by plane: its whole piece is held
 second_0_is_held : IsHeld files (reading_of 1 0 second_0)
@@ -436,9 +437,10 @@ unfolding least_from bits value_of_bits width_after golomb quantized_gradient is
     golomb_k updated run_updated events_from events_after cell_before run_cell_before block_columns full_blocks blocks run_index_before
     event_bits bits_of_events code bits_read_after is_whole_after ends_data
 second_0_is_held =
-    in_piece by_plane (0, lit< tt, refl) in_second [] second_0 begun.first_by_plane
-    (code_of_test by_plane 59 (interval_of (plane 1) 0) second_plane [] second_0 0 32 computed.none_by_plane computed.one_by_plane refl)
-    [] (reading_of 1 0 second_0) refl (λ s among. absurd (none_in s among))
+    in_piece by_plane (0, lit< tt, refl) in_second [] (second_0 ∷ []) refl begun.first_by_plane
+    (code_of_test by_plane 59 (interval_of (plane 1) 0) second_plane [] (second_0 ∷ []) 0 32 computed.none_by_plane computed.one_by_plane
+    refl)
+    (λ s among. absurd (none_in s among)) (reading_of 1 0 second_0) (0, lit< tt, refl)
 
 -- one reading, or another
 of_one : (r : Reading) → IsHeld files r → (s : Reading) → Contains (r ∷ []) s → IsHeld files s
@@ -452,10 +454,10 @@ unfolding least_from bits value_of_bits width_after golomb quantized_gradient is
     golomb_k updated run_updated events_from events_after cell_before run_cell_before block_columns full_blocks blocks run_index_before
     event_bits bits_of_events code bits_read_after is_whole_after ends_data
 second_1_is_held =
-    in_piece by_plane (0, lit< tt, refl) in_second (second_0 ∷ []) second_1 begun.second_by_plane
-    (code_of_test by_plane 59 (interval_of (plane 1) 0) second_plane (second_0 ∷ []) second_1 32 54 computed.one_by_plane
+    in_piece by_plane (0, lit< tt, refl) in_second (second_0 ∷ []) (second_1 ∷ []) refl begun.second_by_plane
+    (code_of_test by_plane 59 (interval_of (plane 1) 0) second_plane (second_0 ∷ []) (second_1 ∷ []) 32 54 computed.one_by_plane
     computed.two_by_plane refl)
-    (reading_of 1 0 second_0 ∷ []) (reading_of 1 1 second_1) refl (of_one (reading_of 1 0 second_0) second_0_is_held)
+    (of_one (reading_of 1 0 second_0) second_0_is_held) (reading_of 1 1 second_1) (1, lit< tt, refl)
 
 of_two : (r t : Reading) → IsHeld files r → IsHeld files t → (s : Reading) → Contains (r ∷ t ∷ []) s → IsHeld files s
 of_two r t h k s among = elim (first_or_rest s r (t ∷ []) among) [
@@ -469,11 +471,10 @@ unfolding least_from bits value_of_bits width_after golomb quantized_gradient is
     golomb_k updated run_updated events_from events_after cell_before run_cell_before block_columns full_blocks blocks run_index_before
     event_bits bits_of_events code bits_read_after is_whole_after ends_data
 first_1_is_held =
-    in_piece by_line (1, lit< tt, refl) in_lines (first_0 ∷ second_0 ∷ []) first_1 begun.third_by_line
-    (code_of_test by_line 30 (interval_of lines 0) both_lines (first_0 ∷ second_0 ∷ []) first_1 75 182 computed.two_by_line
+    in_piece by_line (1, lit< tt, refl) in_lines (first_0 ∷ second_0 ∷ []) (first_1 ∷ []) refl begun.third_by_line
+    (code_of_test by_line 30 (interval_of lines 0) both_lines (first_0 ∷ second_0 ∷ []) (first_1 ∷ []) 75 182 computed.two_by_line
     computed.three_by_line refl)
-    (reading_of 0 0 first_0 ∷ reading_of 1 0 second_0 ∷ []) (reading_of 0 1 first_1) refl
-    (of_two (reading_of 0 0 first_0) (reading_of 1 0 second_0) first_0_is_held second_0_is_held)
+    (of_two (reading_of 0 0 first_0) (reading_of 1 0 second_0) first_0_is_held second_0_is_held) (reading_of 0 1 first_1) (2, lit< tt, refl)
 
 -- The other files ------------------------------------------------------------------------------------------
 
@@ -614,6 +615,6 @@ unfolding least_from bits value_of_bits width_after golomb quantized_gradient is
     golomb_k updated run_updated events_from events_after cell_before run_cell_before block_columns full_blocks blocks run_index_before
     event_bits bits_of_events code bits_read_after is_whole_after ends_data
 first_0_is_strictly_held =
-    in_file by_line (1, lit< tt, refl) in_lines [] first_0 begun.first_by_line
-    (code_of_test by_line 30 (interval_of lines 0) both_lines [] first_0 0 32 computed.none_by_line computed.one_by_line refl)
-    [] (reading_of 0 0 first_0) refl before_lines (λ s among. absurd (none_in s among)) (λ s among. absurd (none_in s among))
+    in_file by_line (1, lit< tt, refl) in_lines [] (first_0 ∷ []) refl begun.first_by_line
+    (code_of_test by_line 30 (interval_of lines 0) both_lines [] (first_0 ∷ []) 0 32 computed.none_by_line computed.one_by_line refl)
+    before_lines (λ s among. absurd (none_in s among)) (λ s among. absurd (none_in s among)) (reading_of 0 0 first_0) (0, lit< tt, refl)

@@ -5,6 +5,7 @@ use Rattle.jls_partial.specs.Reading.{Reading}
 use Rattle.jls_copy.specs.Pieces.{FoundPiece, pieces, PieceOutcome, AreOutcomes, readings, records}
 use Rattle.jls_held.specs.MendedFiles.{MendedFile, IsHeldByte}
 use Rattle.jls_copy.specs.InHand.{BeginsWithLines}
+use Rattle.jls_held.specs.LineCode.{AreCodedTogether}
 use Rattle.jls_held.specs.HeldLines.{PieceOf, interval_at, placed_at, HasHeldCode}
 
 -- a byte of the piece stands at this offset
@@ -28,8 +29,9 @@ pub record BeforePiece (f : MendedFile) (p : PieceOf f) : Type 0 where
 -- The reading is strictly held: as `IsHeld`, with two conditions more. Each reading of an earlier piece of the file is strictly
 -- held, and so are the bytes before the piece that are in none
 pub data IsStrictlyHeld (files : List MendedFile) : Reading → Type 0 where
-  in_file : (f : MendedFile) → Contains files f → (p : PieceOf f) → (before : List (List ℕ)) (line : List ℕ)
-      → BeginsWithLines (interval_at f p) p.piece.bytes (before ++ line ∷ []) → HasHeldCode f p before line
-      → (earlier : List Reading) (r : Reading) → placed_at f p (before ++ line ∷ []) ≡ earlier ++ r ∷ []
+  in_file : (f : MendedFile) → Contains files f → (p : PieceOf f) → (before lines : List (List ℕ))
+      → AreCodedTogether (interval_at f p) lines → BeginsWithLines (interval_at f p) p.piece.bytes (before ++ lines)
+      → HasHeldCode f p before lines
       → (w : BeforePiece f p) → ((s : Reading) → Contains (readings w.earlier w.outcomes) s → IsStrictlyHeld files s)
-      → ((s : Reading) → Contains earlier s → IsStrictlyHeld files s) → IsStrictlyHeld files r
+      → ((s : Reading) → Contains (placed_at f p before) s → IsStrictlyHeld files s)
+      → (r : Reading) → Contains (placed_at f p (before ++ lines)) r → IsStrictlyHeld files r

@@ -5,7 +5,8 @@ use Rattle.jls_piece.specs.Lines.{PieceShape}
 use Rattle.jls_piece.specs.Reads.{Reads}
 use Rattle.jls_partial.specs.Reading.{Reading}
 use Rattle.jls_marker.specs.Scan.{first_row}
-use Rattle.jls_copy.specs.Course.{Course, IsCourse}
+use Rattle.jls_marker.specs.declared.profile.Profile.TheVariants.{Wide}
+use Rattle.jls_copy.specs.Course.{Course, IsCourseUnder}
 use Rattle.jls_copy.specs.IntervalOf.{interval_of}
 use Rattle.jls_copy.specs.Numbers.{Interval}
 use Rattle.jls_copy.specs.Pieces.{FoundPiece, pieces, placed}
@@ -33,12 +34,13 @@ pub record IsTruePiece (picture : PictureLines) (p : FoundPiece) (k : ℕ) : Typ
 abbrev pub HasTruePieces : PictureLines → Course → Type 0
 HasTruePieces picture c = (q : FoundPiece) → Contains (pieces c) q → (k : ℕ) × IsTruePiece picture q k
 
--- a true file of the picture: it has the held bytes of the mended one, and each of its pieces reads as lines of the picture
+-- a true file of the picture: it has the held bytes of the mended one, and each of its pieces, by line or by sample, reads as lines of the
+-- picture
 pub record IsTrueFile (picture : PictureLines) (f : MendedFile) (bytes : List ℕ) : Type 0 where
   pub are_bytes : AllByRecursion (λ b. b < 256) bytes
   pub has_held : HasHeldBytes f bytes
   pub course : Course
-  pub is_course : IsCourse bytes course
+  pub is_course : IsCourseUnder Wide bytes course
   pub each : HasTruePieces picture course
 
 -- Skeletons -----------------------------------------------------------------------------------------

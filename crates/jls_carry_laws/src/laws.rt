@@ -5,7 +5,7 @@ ghost use Rattle.jls_carry_laws.specs.Laws.{RefilledEditsKeepHeldBytes};
 ghost use Rattle.jls_carry_laws.specs.Laws.{SettledHeldLinesAreThePicture, SettledStrictlyHeldLinesAreThePicture};
 ghost use Rattle.jls_carry_laws.specs.Laws.{StrictlyHeldLinesAreThePicture};
 
-use jls_copy::{pieces_stand_at_their_offsets, strict_pieces_are_by_line};
+use jls_copy::pieces_stand_at_their_offsets_under;
 
 /// A law: an undamaged file has the held bytes of a mended one, and its length, if the copy was damaged nowhere but in its edits, and the
 /// true bytes there are as many as those of the edits. What two copies hold, such a file has together.
@@ -24,16 +24,14 @@ pub fn judged_files_have_true_bytes()
 pub fn held_lines_are_the_picture()
     ensures { HeldLinesAreThePicture }
 {
-    pieces_stand_at_their_offsets();
-    strict_pieces_are_by_line();
+    pieces_stand_at_their_offsets_under();
 }
 
 /// A law: if each mended file has a true file of one picture that is at least as long, each strictly held line is that picture's.
 pub fn strictly_held_lines_are_the_picture()
     ensures { StrictlyHeldLinesAreThePicture }
 {
-    pieces_stand_at_their_offsets();
-    strict_pieces_are_by_line();
+    pieces_stand_at_their_offsets_under();
 }
 
 /// A law: if each line of a partial picture is settled and held, its lines are those of the picture of which each mended file has a true

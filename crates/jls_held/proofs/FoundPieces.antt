@@ -9,14 +9,15 @@ use Rattle.std.proofs.lemmas.List.Elements.{All-contains, All-same, All-push, Al
 use Rattle.std.proofs.Math.Seq.{take-add}
 use Rattle.jls_values.proofs.Lists.{none_in, first_or_rest, is_first, in_rest}
 use Rattle.jls_bits.specs.Bits.{is_whole}
-use Rattle.jls_copy.specs.Course.{Course, IsCourse}
+use Rattle.jls_marker.specs.declared.profile.Profile.TheVariants.{Wide}
+use Rattle.jls_copy.specs.Course.{Course, IsCourseUnder}
 use Rattle.jls_copy.specs.Numbers.{Interval}
 use Rattle.jls_copy.specs.Pieces.{FoundPiece, Lines, IsOutcome, IsOutcomeAt, pieces}
 use Rattle.jls_copy.specs.CutPieces.{closed_by_input, last_piece, cut_pieces}
 use Rattle.jls_copy.specs.ReadCopy.{ReadCopy}
-use Rattle.jls_copy.specs.CopyReads.{CopyReads}
-use Rattle.jls_copy.specs.InHand.{IsInHand, PrefixesGoOn}
-use Rattle.jls_copy.specs.TellingLaws.{AreRecordsOf, of_none, reads, faulty, RecordsAreOfFaultyPieces}
+use Rattle.jls_copy.specs.CopyReads.{CopyReadsUnder}
+use Rattle.jls_copy.specs.InHand.{IsInHandUnder, PrefixesGoOnUnder}
+use Rattle.jls_copy.specs.TellingLaws.{AreRecordsOf, of_none, reads, faulty, RecordsAreOfFaultyPiecesUnder}
 use Rattle.jls_copy.specs.declared.piece.PieceRecord.{PieceRecord}
 use Rattle.jls_copy.specs.declared.piece_in_hand.PieceInHand.{PieceInHand}
 use Rattle.jls_held.specs.MendedFiles.{MendedFile}
@@ -61,14 +62,14 @@ whole_of p k is lines o =
     let at = subst (λ n. IsOutcomeAt p.plan n p.bytes (Lines lines)) is o in at.begins.data_bits.whole
 
 -- a piece that was in hand, and has no record
-pub told_piece : PrefixesGoOn → RecordsAreOfFaultyPieces → (f : MendedFile) → AllByRecursion (λ b. b < 256) f.bytes → (read : ReadCopy)
-    → CopyReads f.bytes read → (p : PieceInHand) → IsTold f.bytes p → HasNoRecord read p → IsPieceOf f p
+pub told_piece : PrefixesGoOnUnder Wide → RecordsAreOfFaultyPiecesUnder Wide → (f : MendedFile) → AllByRecursion (λ b. b < 256) f.bytes → (read : ReadCopy)
+    → CopyReadsUnder Wide f.bytes read → (p : PieceInHand) → IsTold f.bytes p → HasNoRecord read p → IsPieceOf f p
 told_piece go_on records f low read is p told unrecorded =
     let all = records f.bytes read is in let rs = all.0 in
     let kept : take 4096 rs ≡ rs = (
     let a = length-take 4096 rs in let b = ap length all.2 in let d = all.3 in let e = unrecorded.all_kept in
     take_all 4096 rs (omega (arith, a, b, d, e))) in
-    let course = subst (λ z. IsCourse z is.course) told.bytes_are is.is_course in
+    let course = subst (λ z. IsCourseUnder Wide z is.course) told.bytes_are is.is_course in
     let low' = subst (AllByRecursion (λ b. b < 256)) told.bytes_are low in
     let q = go_on told.prefix told.more low' p.plan p.interval p.offset (lines_of p) told.in_hand
     is.course course in
@@ -95,7 +96,7 @@ told_piece go_on records f low read is p told unrecorded =
 
 -- the piece in hand at a file's end
 pub last_piece_of : (f : MendedFile) (p : PieceInHand)
-    → IsInHand f.bytes p.plan p.interval p.offset (lines_of p) → IsPieceOf f p
+    → IsInHandUnder Wide f.bytes p.plan p.interval p.offset (lines_of p) → IsPieceOf f p
 last_piece_of f p h = record {
   found = record {
     course = h.course;
@@ -113,7 +114,7 @@ last_piece_of f p h = record {
 
 -- a piece in hand now is kept in the place of the last one, or beside it
 pub note_more : (reader : Option (List ℕ)) (p : PieceInHand) (old kept out : List PieceInHand)
-    → IfSome reader (λ fed. IsInHand fed p.plan p.interval p.offset (lines_of p)) → out ≡ kept ++ p ∷ []
+    → IfSome reader (λ fed. IsInHandUnder Wide fed p.plan p.interval p.offset (lines_of p)) → out ≡ kept ++ p ∷ []
     → ((bytes : List ℕ) → All (IsTold bytes) old → All (IsTold bytes) kept)
     → IfSome reader (λ fed. (more : List ℕ) → All (IsTold (fed ++ more)) old → All (IsTold (fed ++ more)) out)
 note_more None p old kept out hand out_is less = tt

@@ -17,9 +17,10 @@ use Rattle.jls_piece.specs.Lines.{PieceShape, AreOfWholeRows}
 use Rattle.jls_piece.specs.Reads.{BeginsWithCode}
 use Rattle.jls_piece.proofs.PieceCodes.{line_code}
 use Rattle.jls_held.specs.LineCode.{code_length, bits_before}
+use Rattle.jls_held.specs.Chains.{EndAround}
 
 -- more bytes carry no fewer bits
-more_bits : (before : ℕ) (xs : List ℕ) (m n : ℕ) → m ≤ n
+pub more_bits : (before : ℕ) (xs : List ℕ) (m n : ℕ) → m ≤ n
     → length (bits_read_after before (take m xs)) ≤ length (bits_read_after before (take n xs))
 more_bits before xs zero n l = let e = ap length (data_end before) in omega (arith, e)
 more_bits before [] (suc m) (suc n) l = omega arith
@@ -90,7 +91,7 @@ ends_of law i piece first others unread place by_line b e =
     record { size_is = omega (arith, coded, size, bits, count); few = omega (arith, few, bits, width) }
 
 -- a byte that carries a bit after so many stands at their end or after it
-pub from_start : (piece : List ℕ) (size : ℕ) (start : BitPlace) (place : ℕ) → Ends piece size start
+from_start : (piece : List ℕ) (size : ℕ) (start : BitPlace) (place : ℕ) → Ends piece size start
     → size < bits_before piece (place + 1) → start.bytes ≤ place
 from_start piece size start place e above =
     elim (cases_lt place start.bytes) [
@@ -101,7 +102,7 @@ from_start piece size start place e above =
     ]
 
 -- a byte that carries one of so many first bits stands before their end, or carries the last of them
-pub to_end : (piece : List ℕ) (size : ℕ) (end : BitPlace) (place : ℕ) → is_whole_after 0 piece ≡ true → place < length piece
+to_end : (piece : List ℕ) (size : ℕ) (end : BitPlace) (place : ℕ) → is_whole_after 0 piece ≡ true → place < length piece
     → Ends piece size end → bits_before piece place < size → (place ≤ end.bytes) × (place ≡ end.bytes → 0 < end.bits)
 to_end piece size end place whole inside e below = (
   elim (cases_lt end.bytes place) [
@@ -113,3 +114,11 @@ to_end piece size end place whole inside e below = (
   ],
   (λ is. let s = e.size_is in let c = ap (bits_before piece) is in omega (arith, s, c, below)),
 )
+
+-- so each of these ends is one of that many first bits
+pub end_is_around : (piece : List ℕ) (size : ℕ) (place : BitPlace) → is_whole_after 0 piece ≡ true → Ends piece size place
+    → EndAround piece size place
+end_is_around piece size place whole e = record {
+  carried = λ k inside below. to_end piece size place k whole inside e below;
+  behind = λ k inside above. from_start piece size place k e above;
+}

@@ -1,41 +1,34 @@
 -- One line more of a chain: it follows those before it as in its piece.
-use Rattle.std.proofs.Common.{◌≡◌, ℕ, zero, suc, ◌+◌, ◌<◌, ◌≤◌, true, false, List, [], ◌∷◌, ◌++◌, length, refl, sym, ap, ◌∙◌, subst}
-use Rattle.std.proofs.Common.{arith, inl, inr, take, get_or, map, length-append, append_assoc, add-one}
+use Rattle.std.proofs.Common.{◌≡◌, ℕ, zero, suc, ◌+◌, ◌-◌, ◌*◌, ◌/◌, ◌<◌, ◌≤◌, Bool, true, false, List, [], ◌∷◌, ◌++◌, length, refl, sym, ap, ◌∙◌}
+use Rattle.std.proofs.Common.{subst, arith, inl, inr, take, drop, get_or, map, length-append, append_assoc, add-one}
 use Rattle.std.specs.Prelude.{if◌then◌else◌, ◌==◌}
 use Rattle.std.specs.List.{Contains}
-use Rattle.std.proofs.lemmas.List.{take_at, length-map, map-append, get_or_append_left, get_or_push, get_or_read, length_push}
-use Rattle.std.proofs.lemmas.Bool.{cases_lt}
-use Rattle.jls_values.proofs.Lists.{of_map, all_at}
+use Rattle.std.proofs.lemmas.List.{append-nil, take_at, take-append-le, take-append-drop, length-take-le, length-map, map-append}
+use Rattle.std.proofs.lemmas.List.{get_or_append_left, get_or_push, length_push}
+use Rattle.std.proofs.lemmas.List.Elements.{Contains-append_right}
+use Rattle.std.proofs.lemmas.Bool.{cases_lt, cases_Bool}
+use Rattle.std.proofs.lemmas.Nat.{mul-le}
+use Rattle.std.proofs.Math.Nat.{div-mul-le_self, lt-div-mul-add, div-lt_iff_lt-mul}
+use Rattle.std.proofs.Math.Seq.{take-append-add}
+use Rattle.jls_values.proofs.Lists.{of_map, none_in, is_first, in_rest, first_or_rest}
 use Rattle.jls_bits.specs.declared.writer.BitPlace.{BitPlace}
-use Rattle.jls_bits.specs.Front.{EndsAt}
-use Rattle.jls_interval.specs.Code.{code}
-use Rattle.jls_interval.specs.Fronts.{FrontsBeginPieces, LinesEndAt, nowhere}
+use Rattle.jls_interval.specs.Fronts.{nowhere}
 use Rattle.jls_interval.proofs.HeadLines.{prefix_lines}
 use Rattle.jls_piece.specs.Lines.{PieceShape, AreOfWholeRows}
 use Rattle.jls_piece.specs.Code.{piece_code}
-use Rattle.jls_piece.specs.Reads.{BeginsWithCode}
 use Rattle.jls_piece.proofs.PieceCodes.{code_parts}
 use Rattle.jls_marker.specs.Scan.{Scan, first_row}
 use Rattle.jls_partial.specs.Reading.{Reading, reading_of}
 use Rattle.jls_copy.specs.IntervalOf.{interval_of}
-use Rattle.jls_copy.specs.Pieces.{FoundPiece, pieces, placed}
-use Rattle.jls_copy.specs.CourseLaws.{StrictPiecesAreByLine}
+use Rattle.jls_copy.specs.Pieces.{placed}
 use Rattle.jls_held.specs.declared.chain.ChainLine.{ChainLine}
 use Rattle.jls_copy.specs.declared.piece_in_hand.PieceInHand.{PieceInHand}
 use Rattle.jls_held.specs.MendedFiles.{MendedFile, IsHeldByte}
-use Rattle.jls_copy.specs.InHand.{BeginsWithLines, first_lines}
-use Rattle.jls_held.specs.LineCode.{code_length, IsByteOf, bits_before}
-use Rattle.jls_held.specs.HeldLines.{IsHeld, in_piece}
+use Rattle.jls_copy.specs.InHand.{BeginsWithLines}
+use Rattle.jls_held.specs.LineCode.{AreCodedTogether, IsByteOf, code_length, bits_before}
+use Rattle.jls_held.specs.HeldLines.{PieceOf, placed_at, IsHeld, in_piece}
 use Rattle.jls_held.specs.FilePieces.{lines_of, IsPieceOf}
-use Rattle.jls_held.specs.Chains.{AreHeldBetween, reading_in, IsChain}
-use Rattle.jls_held.proofs.LineBytes.{any_rows, Ends, ends_of, from_start, to_end}
-
--- a piece of a strict file is by line
-pub piece_by_line : StrictPiecesAreByLine → (f : MendedFile) (p : PieceInHand) → IsPieceOf f p → p.plan.by_sample ≡ false
-piece_by_line law f p is =
-    let q = is.found in
-    ap (λ (s : Scan). s.by_sample) (sym is.plan_is)
-    ∙ all_at (λ (piece : FoundPiece). piece.plan.by_sample ≡ false) (pieces q.course) q.piece (law f.bytes q.course q.is_course) q.among
+use Rattle.jls_held.specs.Chains.{AreHeldBetween, AreCodeEnds, start_of, together, reading_in, IsChain}
 
 -- a piece that begins with the code of lines begins with that of the first of them. By sample these are to be of whole rows
 pub begins_with_first : (i : PieceShape) (piece : List ℕ) (xs ys : List (List ℕ)) → AreOfWholeRows i xs
@@ -58,29 +51,39 @@ begins_with_first i piece xs ys rows b =
       };
     }
 
--- a line of a piece by line is held if the bytes of its code are, and the lines before it
-pub line_held : (files : List MendedFile) (f : MendedFile) (p : PieceInHand) → Contains files f → (is : IsPieceOf f p)
-    → p.plan.by_sample ≡ false → (before : List (List ℕ)) (line : List ℕ) (later : List (List ℕ)) → lines_of p ≡ before ++ line ∷ later
-    → ((place : ℕ) → IsByteOf (interval_of p.plan p.interval) is.found.piece.bytes before line place → IsHeldByte f (p.offset + place))
-    → (earlier : List Reading) (r : Reading)
-    → placed p.plan.components (first_row p.plan p.interval) 0 (before ++ line ∷ []) ≡ earlier ++ r ∷ []
-    → ((s : Reading) → Contains earlier s → IsHeld files s) → IsHeld files r
-line_held files f p among is by_line before line later lines own earlier r placed_are known =
-    let q = is.found in let all = before ++ line ∷ [] in
+-- lines of a piece that are coded together are held if the bytes of their code are, and the lines before them
+lines_held : (files : List MendedFile) (f : MendedFile) (p : PieceInHand) → Contains files f → (is : IsPieceOf f p)
+    → (before lines later : List (List ℕ)) → lines_of p ≡ (before ++ lines) ++ later
+    → AreOfWholeRows (interval_of p.plan p.interval) (before ++ lines) → AreCodedTogether (interval_of p.plan p.interval) lines
+    → ((place : ℕ) → IsByteOf (interval_of p.plan p.interval) is.found.piece.bytes before lines place → IsHeldByte f (p.offset + place))
+    → ((s : Reading) → Contains (placed p.plan.components (first_row p.plan p.interval) 0 before) s → IsHeld files s)
+    → (r : Reading) → Contains (placed p.plan.components (first_row p.plan p.interval) 0 (before ++ lines)) r → IsHeld files r
+lines_held files f p among is before lines later lines_are rows as_one own known r within =
+    let q = is.found in
     let interval : interval_of q.piece.plan q.number ≡ interval_of p.plan p.interval =
     ap (λ (s : Scan). interval_of s q.number) is.plan_is ∙ ap (interval_of p.plan) is.number_is in
-    let placed_same : placed q.piece.plan.components (first_row q.piece.plan q.number) 0 all
-    ≡ placed p.plan.components (first_row p.plan p.interval) 0 all =
+    let same : (all : List (List ℕ)) → placed_at f q all ≡ placed p.plan.components (first_row p.plan p.interval) 0 all = λ all.
     ap (λ (s : Scan). placed s.components (first_row s q.number) 0 all) is.plan_is
     ∙ ap (λ n. placed p.plan.components (first_row p.plan n) 0 all) is.number_is in
-    let begins = begins_with_first (interval_of p.plan p.interval) q.piece.bytes all later
-    (any_rows (interval_of p.plan p.interval) by_line all)
-    (subst (λ z. BeginsWithLines (interval_of p.plan p.interval) q.piece.bytes z)
-    (lines ∙ sym (append_assoc before (line ∷ []) later)) is.begins) in
-    in_piece f among q before line (subst (λ i. BeginsWithLines i q.piece.bytes all) (sym interval) begins)
+    let begins = begins_with_first (interval_of p.plan p.interval) q.piece.bytes (before ++ lines) later rows
+    (subst (λ z. BeginsWithLines (interval_of p.plan p.interval) q.piece.bytes z) lines_are is.begins) in
+    in_piece f among q before lines (subst (λ i. AreCodedTogether i lines) (sym interval) as_one)
+    (subst (λ i. BeginsWithLines i q.piece.bytes (before ++ lines)) (sym interval) begins)
     (λ place b. subst (λ n. IsHeldByte f (n + place)) (sym is.offset_is)
-    (own place (subst (λ i. IsByteOf i q.piece.bytes before line place) interval b)))
-    earlier r (placed_same ∙ placed_are) known
+    (own place (subst (λ i. IsByteOf i q.piece.bytes before lines place) interval b)))
+    (λ s inside. known s (subst (λ z. Contains z s) (same before) inside)) r (subst (λ z. Contains z r) (sym (same (before ++ lines))) within)
+
+-- readings of first lines are readings of all
+pub placed_more : (cs : List ℕ) (row place : ℕ) (xs ys : List (List ℕ)) (r : Reading) → Contains (placed cs row place xs) r
+    → Contains (placed cs row place (xs ++ ys)) r
+placed_more cs row place [] ys r c = absurd (none_in r c)
+placed_more cs row place (x ∷ xs) ys r c =
+    let next_row = if (place + 1 == length cs) then row + 1 else row in let next_place = if (place + 1 == length cs) then 0 else place + 1 in
+    let q = reading_of (get_or cs place 0) row x in
+    elim (first_or_rest r q (placed cs next_row next_place xs) c) [
+      | inl e ↦ subst (Contains (q ∷ placed cs next_row next_place (xs ++ ys))) e (is_first q (placed cs next_row next_place (xs ++ ys)))
+      | inr later ↦ in_rest r q (placed cs next_row next_place (xs ++ ys)) (placed_more cs next_row next_place xs ys r later)
+    ]
 
 -- A chain so far --------------------------------------------------------------------------------------
 
@@ -93,50 +96,58 @@ pub record IsSoFar (plan : Scan) (k : ℕ) (lines : List (List ℕ)) (chain : Li
   pub readings_are : (more : List (List ℕ)) → placed plan.components (first_row plan k) 0 (map samples_in chain ++ more)
       ≡ map reading_in chain ++ placed plan.components row place more
 
--- where the code of so many first lines ends
-abbrev pub start_of : List BitPlace → ℕ → BitPlace
-start_of ends zero = nowhere
-start_of ends (suc n) = get_or ends n nowhere
-
-module _ (law : FrontsBeginPieces) (strict : StrictPiecesAreByLine) (f : MendedFile) (p : PieceInHand) (is : IsPieceOf f p)
-    (ends : List BitPlace) (at : LinesEndAt p.plan.params p.plan.width (length p.plan.components) (lines_of p) ends) where
+module _ (f : MendedFile) (p : PieceInHand) (is : IsPieceOf f p) (some : 0 < length p.plan.components) (ends : List BitPlace)
+    (at : AreCodeEnds (interval_of p.plan p.interval) is.found.piece.bytes (lines_of p) ends) where
   abbrev interval : PieceShape
   interval = interval_of p.plan p.interval
 
   abbrev bytes : List ℕ
   bytes = is.found.piece.bytes
 
-  -- the place where the code of the first lines ends
-  ends_there : (first others : List (List ℕ)) (n : ℕ) → lines_of p ≡ first ++ others → length first ≡ suc n
-      → Ends bytes (code_length interval first) (get_or ends n nowhere)
-  ends_there first others n lines count =
-      let whole = ap length lines ∙ length-append first others in
-      let one : take (n + 1) (lines_of p) ≡ first =
-      ap (take (n + 1)) lines ∙ take_at first others (n + 1) (omega (arith, count)) in
-      ends_of law (first_lines interval (length (lines_of p))) bytes first others is.begins.unread (get_or ends n nowhere)
-      (piece_by_line strict f p is)
-      (subst (λ z. BeginsWithCode (first_lines interval (length (lines_of p))) bytes z is.begins.unread) lines is.begins.begins)
-      (subst (λ z. EndsAt (code p.plan.params p.plan.width (length p.plan.components) z) (get_or ends n nowhere)) one
-      (at.each n (omega (arith, whole, count))))
+  abbrev size : ℕ
+  size = together interval
 
-  -- a byte that carries bits of the next line is not before the end of those before it
-  starts_there : (before later : List (List ℕ)) (n : ℕ) → lines_of p ≡ before ++ later → length before ≡ n → (place : ℕ)
-      → code_length interval before < bits_before bytes (place + 1) → (start_of ends n).bytes ≤ place
-  starts_there before later zero lines count place above = omega arith
-  starts_there before later (suc n) lines count place above =
-      from_start bytes (code_length interval before) (get_or ends n nowhere) place (ends_there before later n lines count) above
+  some_size : 0 < size
+  some_size = by p.plan.by_sample
+    where
+      by : (b : Bool) → 0 < (if b then length p.plan.components else 1)
+      by true = some
+      by false = omega arith
 
-  -- the bytes of a line's code are held
-  bytes_held : (before : List (List ℕ)) (line : List ℕ) (later : List (List ℕ)) → lines_of p ≡ before ++ line ∷ later
-      → AreHeldBetween f.held p.offset (start_of ends (length before)) (get_or ends (length before) nowhere)
-      → (place : ℕ) → IsByteOf interval bytes before line place → IsHeldByte f (p.offset + place)
-  bytes_held before line later lines h place b =
-      let n = length before in let end = get_or ends n nowhere in
-      let low = starts_there before (line ∷ later) n lines refl place b.ends_after_its_begin in
-      let count = length-append before (line ∷ []) in
-      let e = ends_there (before ++ line ∷ []) later n (lines ∙ sym (append_assoc before (line ∷ []) later)) (omega (arith, count)) in
-      let high = to_end bytes (code_length interval (before ++ line ∷ [])) end place is.begins.begins.data_bits.whole b.within e
-      b.begins_before_its_end in
+  -- lines that are coded together stand whole in the piece, if one of them does
+  whole_together : (k : ℕ) → k < length (lines_of p) → (k / size + 1) * size ≤ length (lines_of p)
+  whole_together k inside = by p.plan.by_sample refl
+    where
+      by : (b : Bool) → p.plan.by_sample ≡ b
+          → (k / (if b then length p.plan.components else 1) + 1) * (if b then length p.plan.components else 1) ≤ length (lines_of p)
+      by true e =
+          let c = length p.plan.components in let w = is.begins.begins.whole_rows e in
+          let row : k / c < w.0 = (div-lt_iff_lt-mul some).1 (subst (λ n. k < n) w.1 inside) in
+          let m = mul-le (k / c + 1) c w.0 c (omega (arith, row)) (omega arith) in let n = w.1 in omega (arith, m, n)
+      by false e = let d = div-mul-le_self k 1 in omega (arith, d, inside)
+
+  -- and they are of whole rows
+  whole_rows : (n : ℕ) (xs : List (List ℕ)) → length xs ≡ n * size → AreOfWholeRows interval xs
+  whole_rows n xs count = λ e. (n, count ∙ ap (λ (b : Bool). n * (if b then length p.plan.components else 1)) e)
+
+  -- a byte that carries bits behind so many lines coded together is not before the end of those
+  starts_there : (n place : ℕ) → n ≤ length ends → place < length bytes
+      → code_length interval (take (n * size) (lines_of p)) < bits_before bytes (place + 1) → (start_of ends n).bytes ≤ place
+  starts_there zero place listed inside above = omega arith
+  starts_there (suc n) place listed inside above =
+      (at n (omega (arith, listed))).behind place inside
+      (subst (λ m. code_length interval (take (m * size) (lines_of p)) < bits_before bytes (place + 1)) (sym (add-one n)) above)
+
+  -- the bytes of the code of lines that are coded together are held
+  bytes_held : (n : ℕ) → n < length ends → AreHeldBetween f.held p.offset (start_of ends n) (get_or ends n nowhere)
+      → (before lines : List (List ℕ)) → before ≡ take (n * size) (lines_of p) → before ++ lines ≡ take ((n + 1) * size) (lines_of p)
+      → (place : ℕ) → IsByteOf interval bytes before lines place → IsHeldByte f (p.offset + place)
+  bytes_held n listed h before lines before_are lines_are place b =
+      let end = get_or ends n nowhere in
+      let low = starts_there n place (omega (arith, listed)) b.within
+      (subst (λ z. code_length interval z < bits_before bytes (place + 1)) before_are b.ends_after_its_begin) in
+      let high = (at n listed).carried place b.within
+      (subst (λ z. bits_before bytes place < code_length interval z) lines_are b.begins_before_its_end) in
       elim (cases_lt place end.bytes) [
         | inl inside ↦ h.filled place low inside
         | inr last ↦ (
@@ -144,13 +155,68 @@ module _ (law : FrontsBeginPieces) (strict : StrictPiecesAreByLine) (f : MendedF
             subst (λ k. IsHeldByte f (p.offset + k)) (sym same) (h.last (high.1 same)))
       ]
 
+  -- the line behind a chain so far is held, if the bytes of its code are, and the chain's lines
+  next_held : (chain : List ChainLine) (l : ChainLine) (rest : List (List ℕ)) (place : ℕ)
+      → IsSoFar p.plan p.interval (lines_of p) chain (samples_in l ∷ rest) l.row place
+      → l.component ≡ get_or p.plan.components place 0 → length chain / size < length ends
+      → AreHeldBetween f.held p.offset (start_of ends (length chain / size)) (get_or ends (length chain / size) nowhere)
+      → (files : List MendedFile) → Contains files f → ((s : Reading) → Contains (map reading_in chain) s → IsHeld files s)
+      → IsHeld files (reading_in l)
+  next_held chain l rest place so component listed held files among known =
+      let all = lines_of p in let past = map samples_in chain in let n = length chain / size in let start = n * size in
+      let stop = (n + 1) * size in
+      let cs = p.plan.components in let first = first_row p.plan p.interval in
+      let count : length past ≡ length chain = length-map chain samples_in in
+      let whole = ap length so.lines_are ∙ length-append past (samples_in l ∷ rest) in
+      let enough : stop ≤ length all = whole_together (length chain) (omega (arith, whole, count)) in
+      let low : start ≤ length chain = div-mul-le_self (length chain) size in
+      let high : length chain < start + size = lt-div-mul-add some_size in
+      let sum : stop ≡ start + size = omega arith in
+      let both = take stop all in let later = drop stop all in
+      let all_are : all ≡ both ++ later = sym (take-append-drop stop all) in
+      let both_count : length both ≡ stop = length-take-le stop all enough in
+      let before = take start both in let lines = drop start both in
+      let both_are : before ++ lines ≡ both = take-append-drop start both in
+      let before_is : before ≡ take start all =
+      sym (take-append-le start both later (omega (arith, both_count, sum))) ∙ ap (take start) (sym all_are) in
+      let before_count : length before ≡ start = length-take-le start both (omega (arith, both_count, sum)) in
+      let own_count : length lines ≡ size = (
+      let a = ap length both_are in let b = length-append before lines in omega (arith, a, b, both_count, before_count, sum)) in
+      let past_is : before ≡ take start past =
+      before_is ∙ ap (take start) so.lines_are ∙ take-append-le start past (samples_in l ∷ rest) (omega (arith, low, count)) in
+      let chain_readings : placed cs first 0 past ≡ map reading_in chain =
+      ap (placed cs first 0) (sym (append-nil past)) ∙ so.readings_are [] ∙ append-nil (map reading_in chain) in
+      let with_l = past ++ samples_in l ∷ [] in
+      let with_count : length with_l ≡ length chain + 1 = length-append past (samples_in l ∷ []) ∙ ap (λ z. z + 1) count in
+      let over = stop - length with_l in
+      let fits : stop ≡ length with_l + over = omega (arith, with_count, high, sum) in
+      let both_begin : both ≡ with_l ++ take over rest =
+      ap (λ z. take z all) fits ∙ ap (take (length with_l + over)) (so.lines_are ∙ sym (append_assoc past (samples_in l ∷ []) rest))
+      ∙ take-append-add with_l rest over in
+      let own : Contains (placed cs first 0 with_l) (reading_in l) =
+      subst (λ z. Contains z (reading_in l)) (sym (so.readings_are (samples_in l ∷ [])))
+      (Contains-append_right (map reading_in chain) (placed cs l.row place (samples_in l ∷ [])) (reading_in l)
+      (subst (λ c. Contains (reading_of (get_or cs place 0) l.row (samples_in l) ∷ []) (reading_of c l.row (samples_in l))) (sym component)
+      (is_first (reading_of (get_or cs place 0) l.row (samples_in l)) []))) in
+      lines_held files f p among is before lines later (all_are ∙ ap (λ z. z ++ later) (sym both_are))
+      (whole_rows (n + 1) (before ++ lines) (ap length both_are ∙ both_count)) own_count
+      (bytes_held n listed held before lines before_is both_are)
+      (λ s inside. known s (subst (λ z. Contains z s) chain_readings
+      (subst (λ z. Contains (placed cs first 0 z) s) (ap (λ z. z ++ drop start past) past_is ∙ take-append-drop start past)
+      (placed_more cs first 0 before (drop start past) s inside))))
+      (reading_in l)
+      (subst (λ z. Contains (placed cs first 0 z) (reading_in l)) (sym (both_are ∙ both_begin))
+      (placed_more cs first 0 with_l (take over rest) (reading_in l) own))
+
   -- one line more
-  pub chain_more : (chain : List ChainLine) (l : ChainLine) (rest : List (List ℕ)) (place : ℕ)
+  chain_more : (chain : List ChainLine) (l : ChainLine) (rest : List (List ℕ)) (place : ℕ)
       → IsSoFar p.plan p.interval (lines_of p) chain (samples_in l ∷ rest) l.row place
       → l.component ≡ get_or p.plan.components place 0
-      → (l.is_code_held ≡ true → AreHeldBetween f.held p.offset (start_of ends (length chain)) (get_or ends (length chain) nowhere))
+      → (l.is_code_held ≡ true → length chain / size < length ends)
+      → (l.is_code_held ≡ true
+      → AreHeldBetween f.held p.offset (start_of ends (length chain / size)) (get_or ends (length chain / size) nowhere))
       → (files : List MendedFile) → Contains files f → IsChain files chain → IsChain files (chain ++ l ∷ [])
-  chain_more chain l rest place so component code files among are k d inside known first =
+  chain_more chain l rest place so component listed code files among are k d inside known first =
       let n = length_push chain l in
       elim (cases_lt k (length chain)) [
         | inl early ↦ (
@@ -162,50 +228,31 @@ module _ (law : FrontsBeginPieces) (strict : StrictPiecesAreByLine) (f : MendedF
         | inr late ↦ (
             let at_end : k ≡ length chain = omega (arith, n, inside, late) in
             let same = get_or_push chain l d k (sym at_end) in
-            let before = map samples_in chain in
-            let count : length before ≡ length chain = length-map chain samples_in in
-            let held = code (ap (λ (z : ChainLine). z.is_code_held) (sym same) ∙ known) in
-            let readings = so.readings_are (samples_in l ∷ []) in
+            let marked = ap (λ (z : ChainLine). z.is_code_held) (sym same) ∙ known in
             subst (λ z. IsHeld files (reading_in z)) (sym same)
-            (line_held files f p among is (piece_by_line strict f p is) before (samples_in l) rest so.lines_are
-            (bytes_held before (samples_in l) rest so.lines_are
-            (subst (λ m. AreHeldBetween f.held p.offset (start_of ends m) (get_or ends m nowhere)) (sym count) held))
-            (map reading_in chain) (reading_in l)
-            (readings ∙ ap (λ c. map reading_in chain ++ reading_of c l.row (samples_in l) ∷ []) (sym component))
+            (next_held chain l rest place so component (listed marked) (code marked) files among
             (λ s inside. let from = of_map reading_in chain s inside in let j = from.1.0 in let x = from.0 in
             let low = from.1.1 in
             subst (IsHeld files) (ap reading_in (get_or_append_left chain (l ∷ []) x j low ∙ from.1.2) ∙ from.2)
             (first j x (omega (arith, at_end, low)) (omega (arith, n, low))))))
       ]
 
-  -- one line more, of the chain that comes out
-  pub chain_step : (chain : List ChainLine) (l : ChainLine) (rest : List (List ℕ)) (place : ℕ) (start end : BitPlace)
+  -- one line more, of the chain that comes out, where this many lines were said to be coded together, and to stand before it
+  pub chain_step : (chain : List ChainLine) (l : ChainLine) (rest : List (List ℕ)) (place many number : ℕ) (held : List Bool)
       → IsSoFar p.plan p.interval (lines_of p) chain (samples_in l ∷ rest) l.row place
-      → l.component ≡ get_or p.plan.components place 0 → start_of ends (length chain) ≡ start → get_or ends (length chain) nowhere ≡ end
-      → (l.is_code_held ≡ true → AreHeldBetween f.held p.offset start end)
+      → l.component ≡ get_or p.plan.components place 0 → many ≡ size → number ≡ length chain → held ≡ f.held
+      → (l.is_code_held ≡ true → number / many < length ends)
+      → (l.is_code_held ≡ true
+      → AreHeldBetween held p.offset (start_of ends (number / many)) (get_or ends (number / many) nowhere))
       → ((files : List MendedFile) → Contains files f → IsChain files chain)
       → (out : List ChainLine) → out ≡ chain ++ l ∷ [] → (files : List MendedFile) → Contains files f → IsChain files out
-  chain_step chain l rest place start end so component start_is end_is code are out out_is files among =
+  chain_step chain l rest place many number held so component many_is number_is held_is listed code are out out_is files among =
+      let quotient : number / many ≡ length chain / size = ap (λ m. number / m) many_is ∙ ap (λ m. m / size) number_is in
       subst (IsChain files) (sym out_is)
-      (chain_more chain l rest place so component
-      (λ known. subst (λ s. AreHeldBetween f.held p.offset s (get_or ends (length chain) nowhere)) (sym start_is)
-      (subst (λ e. AreHeldBetween f.held p.offset start e) (sym end_is) (code known)))
+      (chain_more chain l rest place so component (λ known. subst (λ q. q < length ends) quotient (listed known))
+      (λ known. subst (λ h. AreHeldBetween h p.offset (start_of ends (length chain / size)) (get_or ends (length chain / size) nowhere)) held_is
+      (subst (λ q. AreHeldBetween held p.offset (start_of ends q) (get_or ends q nowhere)) quotient (code known)))
       files among (are files among))
-
--- what is read where the code of the next line ends
-pub end_read : (plan : Scan) (k : ℕ) (lines : List (List ℕ)) (ends : List BitPlace) → length ends ≡ length lines → (chain : List ChainLine)
-    (line : List ℕ) (rest : List (List ℕ)) (row place : ℕ) → IsSoFar plan k lines chain (line ∷ rest) row place
-    → (x : BitPlace) → x ≡ get_or ends (length chain) x → get_or ends (length chain) nowhere ≡ x
-end_read plan k lines ends count chain line rest row place so x is =
-    let whole = ap length so.lines_are ∙ length-append (map samples_in chain) (line ∷ rest) in let mapped = length-map chain samples_in in
-    sym (get_or_read ends (length chain) x (omega (arith, whole, mapped, count)) is nowhere)
-
--- there the code of the line after it starts
-pub start_more : (ends : List BitPlace) (chain : List ChainLine) (l : ChainLine) (out : List ChainLine) (end : BitPlace)
-    → out ≡ chain ++ l ∷ [] → get_or ends (length chain) nowhere ≡ end → start_of ends (length out) ≡ end
-start_more ends chain l out end out_is end_is =
-    let count : length out ≡ suc (length chain) = ap length out_is ∙ length_push chain l ∙ add-one (length chain) in
-    ap (start_of ends) count ∙ end_is
 
 -- Its rows ---------------------------------------------------------------------------------------------
 

@@ -1,16 +1,43 @@
 -- Inside the crate: chains, the lines of a piece in order, each with whether all bytes of its code are held.
-use Rattle.std.specs.Prelude.{◌≡◌, ℕ, ◌+◌, ◌<◌, ◌≤◌, Bool, true, false, List, length, get_or, Vec}
+use Rattle.std.specs.Prelude.{◌≡◌, ℕ, zero, suc, ◌+◌, ◌*◌, ◌<◌, ◌≤◌, Bool, true, false, if◌then◌else◌, List, length, take, get_or, Vec}
 use Rattle.std.specs.declared.alloc.Global.{Global}
 use Rattle.jls_bits.specs.declared.writer.BitPlace.{BitPlace}
+use Rattle.jls_interval.specs.Fronts.{nowhere}
+use Rattle.jls_piece.specs.Lines.{PieceShape}
 use Rattle.jls_partial.specs.Reading.{Reading, reading_of}
 use Rattle.jls_held.specs.declared.chain.ChainLine.{ChainLine}
 use Rattle.jls_held.specs.MendedFiles.{MendedFile}
+use Rattle.jls_held.specs.LineCode.{code_length, bits_before}
 use Rattle.jls_held.specs.HeldLines.{IsHeld}
 
 -- all bytes of a file are held that carry bits between two places of the piece at this offset
 pub record AreHeldBetween (held : List Bool) (offset : ℕ) (start end : BitPlace) : Type 0 where
   pub filled : (place : ℕ) → start.bytes ≤ place → place < end.bytes → get_or held (offset + place) false ≡ true
   pub last : 0 < end.bits → get_or held (offset + end.bytes) false ≡ true
+
+-- So many first bits of a piece end here: each byte that carries one of them stands before this place, or has some bits before it. Each byte
+-- that carries a bit behind them doesn't stand before this place
+pub record EndAround (piece : List ℕ) (size : ℕ) (place : BitPlace) : Type 0 where
+  pub carried : (k : ℕ) → k < length piece → bits_before piece k < size → (k ≤ place.bytes) × (k ≡ place.bytes → 0 < place.bits)
+  pub behind : (k : ℕ) → k < length piece → size < bits_before piece (k + 1) → place.bytes ≤ k
+
+-- how many lines are coded together
+abbrev pub together : PieceShape → ℕ
+together i = if i.by_sample then i.components else 1
+
+-- these are the places where the code of each so many lines of a piece ends, one after another
+abbrev pub AreCodeEnds : PieceShape → List ℕ → List (List ℕ) → List BitPlace → Type 0
+AreCodeEnds i piece lines ends =
+    (k : ℕ) → k < length ends → EndAround piece (code_length i (take ((k + 1) * together i) lines)) (get_or ends k nowhere)
+
+-- some bits of the byte at this place, if it isn't said how many
+abbrev pub place_of : ℕ → BitPlace
+place_of n = record { bytes = n; bits = 1 }
+
+-- where the code behind so many of these ends begins
+abbrev pub start_of : List BitPlace → ℕ → BitPlace
+start_of ends zero = nowhere
+start_of ends (suc n) = get_or ends n nowhere
 
 -- a line of a chain as a reading
 abbrev pub reading_in : ChainLine → Reading

@@ -1,9 +1,10 @@
 -- Pieces of mended files, and the lines with whose code they begin, as they were in hand.
 use Rattle.std.specs.Prelude.{◌≡◌, ◌≢◌, ℕ, List, ◌++◌, length, map, All}
+use Rattle.jls_marker.specs.declared.profile.Profile.TheVariants.{Wide}
 use Rattle.jls_copy.specs.IntervalOf.{interval_of}
 use Rattle.jls_copy.specs.declared.piece_in_hand.PieceInHand.{PieceInHand}
 use Rattle.jls_held.specs.MendedFiles.{MendedFile}
-use Rattle.jls_copy.specs.InHand.{BeginsWithLines, IsInHand}
+use Rattle.jls_copy.specs.InHand.{BeginsWithLines, IsInHandUnder}
 use Rattle.jls_copy.specs.ReadCopy.{ReadCopy}
 use Rattle.jls_held.specs.HeldLines.{PieceOf}
 
@@ -24,7 +25,7 @@ pub record IsTold (bytes : List ℕ) (p : PieceInHand) : Type 0 where
   pub prefix : List ℕ
   pub more : List ℕ
   pub bytes_are : bytes ≡ prefix ++ more
-  pub in_hand : IsInHand prefix p.plan p.interval p.offset (lines_of p)
+  pub in_hand : IsInHandUnder Wide prefix p.plan p.interval p.offset (lines_of p)
 
 -- all records of a copy are kept, and none has the offset of the piece
 pub record HasNoRecord (read : ReadCopy) (p : PieceInHand) : Type 0 where

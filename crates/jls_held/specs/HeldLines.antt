@@ -1,22 +1,23 @@
--- Lines that the bytes of mended files hold: all bytes of a line's code are held, and so are all lines before it in its interval. The files
--- are read under the strict profile, so that all their pieces are by line.
-use Rattle.std.specs.Prelude.{◌≡◌, ℕ, ◌+◌, List, [], ◌∷◌, ◌++◌}
+-- Lines that the bytes of mended files hold. All bytes of a line's code are held, and so are all lines before it in its interval. By sample
+-- a row has one code, so that its lines are held together. The files are read under the wide profile: by line and by sample.
+use Rattle.std.specs.Prelude.{◌≡◌, ℕ, ◌+◌, List, ◌++◌}
 use Rattle.std.specs.List.{Contains}
 use Rattle.jls_piece.specs.Lines.{PieceShape}
 use Rattle.jls_partial.specs.Reading.{Reading}
 use Rattle.jls_marker.specs.Scan.{first_row}
-use Rattle.jls_copy.specs.Course.{Course, IsCourse}
+use Rattle.jls_marker.specs.declared.profile.Profile.TheVariants.{Wide}
+use Rattle.jls_copy.specs.Course.{Course, IsCourseUnder}
 use Rattle.jls_copy.specs.IntervalOf.{interval_of}
 use Rattle.jls_copy.specs.Numbers.{Interval}
 use Rattle.jls_copy.specs.Pieces.{FoundPiece, pieces, placed}
 use Rattle.jls_held.specs.MendedFiles.{MendedFile, IsHeldByte}
 use Rattle.jls_copy.specs.InHand.{BeginsWithLines}
-use Rattle.jls_held.specs.LineCode.{IsByteOf}
+use Rattle.jls_held.specs.LineCode.{AreCodedTogether, IsByteOf}
 
 -- one of the pieces of a file that have the number of an interval
 pub record PieceOf (f : MendedFile) : Type 0 where
   pub course : Course
-  pub is_course : IsCourse f.bytes course
+  pub is_course : IsCourseUnder Wide f.bytes course
   pub piece : FoundPiece
   pub among : Contains (pieces course) piece
   pub number : ℕ
@@ -30,15 +31,16 @@ interval_at f p = interval_of p.piece.plan p.number
 abbrev pub placed_at : (f : MendedFile) → PieceOf f → List (List ℕ) → List Reading
 placed_at f p lines = placed p.piece.plan.components (first_row p.piece.plan p.number) 0 lines
 
--- all bytes of a line's code are held
-abbrev pub HasHeldCode : (f : MendedFile) → PieceOf f → List (List ℕ) → List ℕ → Type 0
-HasHeldCode f p before line =
-    (place : ℕ) → IsByteOf (interval_at f p) p.piece.bytes before line place → IsHeldByte f (p.piece.offset + place)
+-- all bytes of the code of lines are held
+abbrev pub HasHeldCode : (f : MendedFile) → PieceOf f → List (List ℕ) → List (List ℕ) → Type 0
+HasHeldCode f p before lines =
+    (place : ℕ) → IsByteOf (interval_at f p) p.piece.bytes before lines place → IsHeldByte f (p.piece.offset + place)
 
 -- The reading is held by the files. This is the least set of readings with one rule. A piece of one of the files begins with the code of
--- some lines. All bytes of the last line's code are held, and so is each line before it, as a reading. Then the last one is held
+-- some lines. The last of them are coded together, and all bytes of their code are held. Each line before them is held, as a reading. Then
+-- the last ones are held
 pub data IsHeld (files : List MendedFile) : Reading → Type 0 where
-  in_piece : (f : MendedFile) → Contains files f → (p : PieceOf f) → (before : List (List ℕ)) (line : List ℕ)
-      → BeginsWithLines (interval_at f p) p.piece.bytes (before ++ line ∷ []) → HasHeldCode f p before line
-      → (earlier : List Reading) (r : Reading) → placed_at f p (before ++ line ∷ []) ≡ earlier ++ r ∷ []
-      → ((s : Reading) → Contains earlier s → IsHeld files s) → IsHeld files r
+  in_piece : (f : MendedFile) → Contains files f → (p : PieceOf f) → (before lines : List (List ℕ))
+      → AreCodedTogether (interval_at f p) lines → BeginsWithLines (interval_at f p) p.piece.bytes (before ++ lines)
+      → HasHeldCode f p before lines → ((s : Reading) → Contains (placed_at f p before) s → IsHeld files s)
+      → (r : Reading) → Contains (placed_at f p (before ++ lines)) r → IsHeld files r

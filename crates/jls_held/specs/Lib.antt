@@ -6,4 +6,5 @@ pub mod HeldLines
 pub mod HeldPictures
 pub mod FilePieces
 pub mod Chains
+pub mod RowEnds
 pub mod Judging

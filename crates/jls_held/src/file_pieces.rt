@@ -7,8 +7,8 @@ ghost use Rattle.jls_held.specs.FilePieces.{IsPieceOf, IsTold, HasNoRecord};
 
 use crate::mending::MendedCopy;
 use jls_copy::{
-    CopyFault, CopyRead, CopyReader, PieceInHand, PieceRecord, next_cut, prefixes_go_on,
-    records_are_of_faulty_pieces,
+    CopyFault, CopyRead, PieceInHand, PieceRecord, WideReader, next_cut, prefixes_go_on_under,
+    records_are_of_faulty_pieces_under,
 };
 use std::alloc::{AllocError, Global};
 
@@ -22,7 +22,7 @@ fn is_last(told: &[PieceInHand], offset: u64) -> bool {
 
 /// Keeps the piece in hand, in place of what was kept of it before. A piece that is broken whatever follows is passed by, since it would be
 /// left out in the end.
-fn note(reader: &CopyReader, told: &mut Vec<PieceInHand>) -> Result<(), AllocError>
+fn note(reader: &WideReader, told: &mut Vec<PieceInHand>) -> Result<(), AllocError>
     ensures { OnOk result (IfSome reader.now (λ fed. (more : List ℕ) → All (IsTold (fed ++ more)) told.old.items
         → All (IsTold (fed ++ more)) told.new.items)) }
 {
@@ -42,7 +42,7 @@ fn note(reader: &CopyReader, told: &mut Vec<PieceInHand>) -> Result<(), AllocErr
 /// Feeds a file to a new reader, and keeps each piece that is in hand before a place where scan data can be cut.
 fn read_pieces(
     bytes: &[u8],
-    reader: &mut CopyReader,
+    reader: &mut WideReader,
     told: &mut Vec<PieceInHand>,
 ) -> Result<(), AllocError>
     requires reader { reader.old ≡ Some [] }
@@ -98,9 +98,9 @@ fn without_record(
 pub(crate) fn file_pieces(alloc: Global, file: &MendedCopy) -> Result<Vec<PieceInHand>, AllocError>
     ensures { IfOk result (λ pieces. All (IsPieceOf (file_of file.now)) pieces.items) }
 {
-    prefixes_go_on();
-    records_are_of_faulty_pieces();
-    let mut reader = CopyReader::new(alloc);
+    prefixes_go_on_under();
+    records_are_of_faulty_pieces_under();
+    let mut reader = WideReader::new(alloc);
     let mut told = Vec::new(alloc);
     read_pieces(&file.bytes, &mut reader, &mut told)?;
     let last = reader.piece_in_hand()?;

@@ -10,17 +10,20 @@
 //! - `judging`: `judge`, which proposals of edited copies make one file, and the lines that these files hold
 //! - `holding`: `held_lines`, the lines that mended files hold
 //! - `file_pieces`: the pieces of a file with their first lines, as a reader has them in hand
-//! - `chain`: the lines of a piece, each with whether all bytes of its code are held. Its lines are coded anew for that
+//! - `chain`: the lines of a piece, each with whether all bytes of its code are held
+//! - `code_ends`: where the code of each line ends, by coding the lines anew. By sample it is where the code of each row ends
+//! - `row_ends`: in which byte each row by sample ends, by decoding first bytes
 //! - `rounds`: takes lines that follow held lines, from each piece in turn, until none follows
 //!
 //! Definitions: `MendedFiles` (bytes, and which are held), `Edits` (what makes a mended file of a copy), `Judging` (files that are mended
 //! of several copies), `LineCode` (which bytes carry a line), `HeldLines`, `HeldPictures`, `Mending` and `FilePieces` (what the functions
-//! speak of). `Chains` is needed inside the crate only.
+//! speak of). `Chains` and `RowEnds` are needed inside the crate only.
 //!
 //! The proofs, bottom up:
 //!
 //! - `MendedCopies`; `HeldMarks`: which bytes two copies have together; `EditedCopies`: one copy more of a file
 //! - `LineBytes`: the bytes between two ends of code are those of a line
+//! - `RowBytes`, `RowPlaces`: the byte in which a row ends, by how many rows stand whole in first bytes
 //! - `PieceChains`: lines of a piece follow each other
 //! - `FoundPieces`: what was in hand stands in the whole file; `HeldReadings`
 //!
@@ -31,11 +34,13 @@
 #![tactic(auto)]
 
 mod chain;
+mod code_ends;
 mod file_pieces;
 mod holding;
 mod judging;
 mod mending;
 mod rounds;
+mod row_ends;
 
 pub use holding::held_lines;
 pub use judging::{EditedCopy, Judged, judge};

@@ -17,7 +17,7 @@ use Rattle.jls_partial.specs.ReadingOrder.{marks_exact, marks_total, reading_tot
 use Rattle.jls_partial.specs.Text.{text}
 use Rattle.jls_partial.proofs.Marked.{got_held}
 use Rattle.jls_io.specs.Event.{Event, opened, gave, created}
-use Rattle.jls_copy.specs.Course.{IsCourse, segment, with_soi, for_good, at_eoi}
+use Rattle.jls_copy.specs.Course.{Course, IsCourse, IsCourseUnder, segment, with_soi, for_good, at_eoi}
 use Rattle.jls_marker.specs.declared.profile.Profile.TheVariants.{Wide}
 use Rattle.jls_copy.specs.CopyReads.{CopyReads, CopyReadsUnder}
 use Rattle.jls_copy.specs.Numbers.{Interval}
@@ -53,7 +53,7 @@ use Rattle.jls_splice_run.specs.ReadsAs.{EachReadsAs}
 use Rattle.jls_cli.specs.Outcomes.{finished}
 use Rattle.jls_splice_run.specs.Inputs.{AreInputs}
 use Rattle.jls_splice_run.specs.Runs.{Performs, Run, came_of, done, performed, texts}
-use Rattle.jls_splice_run.proofs.StrictCourses.{wide, wide_course, wide_reading}
+use Rattle.jls_splice_laws.proofs.StrictCourses.{wide, wide_course, wide_reading}
 use Rattle.jls_splice_laws.specs.CarryLaws.{AreCodingsOf, PromisesHeld}
 use Rattle.jls_splice_laws.specs.RunLaws.{DidMake}
 use Rattle.jls_splice_laws.proofs.FaultlessExamples.{bare, file_is_faultless, no_line_is_read}
@@ -230,11 +230,18 @@ are_mended = (
   tt,
 )
 
+-- the file's course under the wide profile
+abbrev own_course : Course
+own_course = wide course
+
+own_course_is : IsCourseUnder Wide mended.bytes own_course
+own_course_is = wide_course mended.bytes course is_course tt
+
 -- both pieces have one byte, which is held
 in_first : PieceOf mended
 in_first = record {
-  course = course;
-  is_course = is_course;
+  course = own_course;
+  is_course = own_course_is;
   piece = record { scan = 0; plan = plan; number = Interval 0; offset = 31; bytes = 0x80 ∷ [] };
   among = (0, lit< tt, refl);
   number = 0;
@@ -243,8 +250,8 @@ in_first = record {
 
 in_second : PieceOf mended
 in_second = record {
-  course = course;
-  is_course = is_course;
+  course = own_course;
+  is_course = own_course_is;
   piece = record { scan = 0; plan = plan; number = Interval 1; offset = 34; bytes = 0x40 ∷ [] };
   among = (1, lit< tt, refl);
   number = 1;
@@ -262,13 +269,13 @@ held_at_34 (suc place) l = absurd (omega (arith, l))
 line_held : (component line : ℕ) → component < 1 → line < 2 → IsHeld files (picture_reading pic component line)
 unfolding in_first in_second
 line_held zero zero k l =
-    in_piece mended (0, lit< tt, refl) in_first [] (0 ∷ [])
+    in_piece mended (0, lit< tt, refl) in_first [] ((0 ∷ []) ∷ []) refl
     (record { at_most = lit≤ tt; unread = outcomes_read.zero_read.unread; begins = outcomes_read.zero_read.begins })
-    (λ place b. held_at_31 place b.within) [] (picture_reading pic 0 0) refl (λ s among. absurd (none_in s among))
+    (λ place b. held_at_31 place b.within) (λ s among. absurd (none_in s among)) (picture_reading pic 0 0) (0, lit< tt, refl)
 line_held zero (suc zero) k l =
-    in_piece mended (0, lit< tt, refl) in_second [] (255 ∷ [])
+    in_piece mended (0, lit< tt, refl) in_second [] ((255 ∷ []) ∷ []) refl
     (record { at_most = lit≤ tt; unread = outcomes_read.largest_read.unread; begins = outcomes_read.largest_read.begins })
-    (λ place b. held_at_34 place b.within) [] (picture_reading pic 0 1) refl (λ s among. absurd (none_in s among))
+    (λ place b. held_at_34 place b.within) (λ s among. absurd (none_in s among)) (picture_reading pic 0 1) (0, lit< tt, refl)
 line_held zero (suc (suc line)) k l = absurd (omega (arith, l))
 line_held (suc component) line k l = absurd (omega (arith, k))
 
@@ -306,7 +313,7 @@ each_reads = (
     are_bytes = file_bytes;
     faultless = file_is_faultless;
     read = file_read;
-    reads = file_reads_so;
+    reads = wide_reading file file_read file_reads_so tt;
     ends = tt;
     same_size = record { width_is = refl; height_is = refl; components_are = refl };
     each_alike = λ component c line l. (line_of pic component line, one_of_file component line c l, one_line component line c l);
@@ -475,16 +482,16 @@ runs_with_0 =
 abbrev picture : PictureLines
 picture = line_of pic
 
-true_pieces : HasTruePieces picture course
-true_pieces q among = all_at (λ q. (k : ℕ) × IsTruePiece picture q k) (pieces course) q (
+true_pieces : HasTruePieces picture own_course
+true_pieces q among = all_at (λ q. (k : ℕ) × IsTruePiece picture q k) (pieces own_course) q (
   (0, record { number_is = refl; lines = (0 ∷ []) ∷ []; reads = outcomes_read.zero_read; each = (refl, tt) }),
   ((1, record { number_is = refl; lines = (255 ∷ []) ∷ []; reads = outcomes_read.largest_read; each = (refl, tt) }), tt),
 ) among
 
-own_head : (p : PieceOf mended) → HasHead course mended p
+own_head : (p : PieceOf mended) → HasHead own_course mended p
 own_head p = record {
   piece = p.piece;
-  among = subst (λ c. Contains (pieces c) p.piece) (one_course mended.bytes p.course course p.is_course is_course) p.among;
+  among = subst (λ c. Contains (pieces c) p.piece) (one_course mended.bytes p.course own_course p.is_course own_course_is) p.among;
   number = p.number;
   number_is = p.number_is;
   head_is = refl;
@@ -500,8 +507,8 @@ are_of_the_picture = (
       record { edits = edits; are_refilled = (refl, refl, refl, tt); makes = refl },
       (record { edits = edits; are_refilled = (refl, refl, refl, tt); makes = refl }, tt),
     );
-    course = course;
-    is_course = is_course;
+    course = own_course;
+    is_course = own_course_is;
     each_piece = true_pieces;
     skeleton = own_head;
   },
@@ -523,8 +530,8 @@ have_true_files =
       record {
         are_bytes = file_bytes;
         has_held = λ offset own. refl;
-        course = course;
-        is_course = is_course;
+        course = own_course;
+        is_course = own_course_is;
         each = true_pieces;
       },
       own_head,

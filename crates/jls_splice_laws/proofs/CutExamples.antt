@@ -31,7 +31,7 @@ use Rattle.jls_search.specs.Levels.{IsLone}
 use Rattle.jls_search.specs.Shapes.{HasNoFrame, HasFrameOfShape}
 use Rattle.jls_search.specs.Stations.{gives, gives_nothing, no_file}
 use Rattle.jls_search.proofs.OneFile.{no_shape, one_shape_of, shape_read}
-use Rattle.jls_splice_run.proofs.StrictCourses.{wide, wide_course}
+use Rattle.jls_splice_laws.proofs.StrictCourses.{wide, wide_course}
 use Rattle.jls_splice_laws.specs.CutLaws.{WereCut, CutLinesAreThePicture, CutTellsOfLine}
 use Rattle.jls_splice_laws.specs.ProfileFiles.{GivesReadingUnder}
 use Rattle.jls_splice_laws.proofs.WholeFiles.{files_by_line_are_whole}

@@ -24,7 +24,7 @@ use Rattle.jls_headline.proofs.TwoLineCopies.{shape, pic, plan, outcomes_read, c
 use Rattle.jls_diff.specs.Parts.{Part, Same, Differ, made, AreParts, IsSplice}
 use Rattle.jls_copy.specs.Prefixes.{CourseHasReading}
 use Rattle.jls_search.specs.Faultless.{GivesEachLine, EndsWell, IsFaultless}
-use Rattle.jls_splice_run.proofs.StrictCourses.{wide, wide_course}
+use Rattle.jls_splice_laws.proofs.StrictCourses.{wide, wide_course}
 use Rattle.jls_splice_laws.specs.Searches.{done, Searched, along, given_up}
 use Rattle.jls_splice_laws.specs.WholeFiles.{IsWholeFile}
 

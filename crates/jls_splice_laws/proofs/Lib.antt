@@ -1,4 +1,6 @@
 -- Lemmas of this crate.
+mod StrictRefusals
+pub mod StrictCourses
 pub mod ProfileFiles
 mod WholeFiles
 mod FileReadings

@@ -52,7 +52,7 @@ use Rattle.jls_splice_run.specs.Handing.{HandsAll, none_handed}
 use Rattle.jls_splice_run.specs.Making.{Made, IsMade, lines}
 use Rattle.jls_splice_run.specs.Inputs.{AreInputs}
 use Rattle.jls_splice_run.specs.Runs.{Performs, Run, came_of, done, performed, texts}
-use Rattle.jls_splice_run.proofs.StrictCourses.{wide, wide_course, wide_reading}
+use Rattle.jls_splice_laws.proofs.StrictCourses.{wide, wide_course, wide_reading}
 use Rattle.jls_splice_laws.specs.RunLaws.{DidMake}
 use Rattle.jls_splice_laws.proofs.FaultlessExamples.{file_is_faultless, no_soi, has_fault_there}
 

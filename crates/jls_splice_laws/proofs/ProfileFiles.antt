@@ -21,7 +21,7 @@ use Rattle.jls_copy_laws.specs.Gives.{GivesReading}
 use Rattle.jls_copy_laws.proofs.CopyScans.{course_has_scans, has_course_with}
 use Rattle.jls_copy_laws.proofs.Gives.{readings_are_of_the_course}
 use Rattle.jls_headline.specs.Stations.{HasShape}
-use Rattle.jls_splice_run.proofs.StrictCourses.{wide_course_of}
+use Rattle.jls_splice_laws.proofs.StrictCourses.{wide_course_of}
 use Rattle.jls_splice_laws.specs.ProfileFiles.{HasShapeUnder, GivesReadingUnder, StrictFilesGiveAsCopies, course_under, IsByLine}
 use Rattle.jls_splice_laws.specs.ProfileFiles.{OtherFilesAreByLine, FilesByLineGiveTheSame}
 

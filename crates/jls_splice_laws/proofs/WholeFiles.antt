@@ -26,7 +26,7 @@ use Rattle.jls_headline.proofs.ScanNumbers.{numbered_pieces_give}
 use Rattle.jls_copy.specs.Prefixes.{HasLines, CourseHasReading}
 use Rattle.jls_copy.proofs.NumbersGiven.{number_above}
 use Rattle.jls_copy.proofs.OneCourse.{one_course}
-use Rattle.jls_splice_run.proofs.StrictCourses.{wide_course}
+use Rattle.jls_splice_laws.proofs.StrictCourses.{wide_course}
 use Rattle.jls_splice_laws.specs.ProfileFiles.{course_under}
 use Rattle.jls_splice_laws.specs.WholeFiles.{FilesByLineAreWhole, WholeFilesAreFaultless, WholeFilesSurvive}
 use Rattle.jls_splice_laws.proofs.ProfileFiles.{strict_files_give_as_copies, files_by_line_give_the_same}

@@ -25,7 +25,7 @@ use Rattle.jls_copy.proofs.OneCourse.{Same, no_unit_at_end, one_unit}
 use Rattle.jls_copy.proofs.OneCut.{no_mark}
 use Rattle.jls_copy_laws.proofs.Members.{none_in}
 use Rattle.jls_carry_laws.proofs.SameHeads.{one_mark}
-use Rattle.jls_splice_run.proofs.StrictCourses.{profile_kept, unit_of}
+use Rattle.jls_splice_laws.proofs.StrictCourses.{profile_kept, unit_of}
 use Rattle.jls_splice_laws.specs.ProfileFiles.{HasShapeUnder, WideGivesWhatStrictGives}
 use Rattle.jls_splice_laws.proofs.LongerFiles.{no_unit}
 

@@ -4,7 +4,8 @@ use Rattle.std.specs.List.{AllByRecursion, AllZip}
 use Rattle.clap.specs.Words.{Text}
 use Rattle.jls_io.specs.Event.{Event}
 use Rattle.jls_partial.specs.Status.{IsSettled}
-use Rattle.jls_copy.specs.Course.{Course, IsCourse}
+use Rattle.jls_marker.specs.declared.profile.Profile.TheVariants.{Wide}
+use Rattle.jls_copy.specs.Course.{Course, IsCourseUnder}
 use Rattle.jls_held.specs.MendedFiles.{MendedFile}
 use Rattle.jls_held.specs.Judging.{EditedCopy, AreMendedOf}
 use Rattle.jls_carry_laws.specs.TrueFiles.{PictureLines, HasTruePieces, HasSkeleton, HaveTrueFilesOfTheirSkeletons, IsCopyOf}
@@ -27,7 +28,7 @@ pub record IsCodingOf (picture : PictureLines) (copies : List (List ℕ)) (codin
   pub are_bytes : AllByRecursion (λ b. b < 256) truth
   pub each_copy : AllByRecursion (IsCopyOf copies truth) coding
   pub course : Course
-  pub is_course : IsCourse truth course
+  pub is_course : IsCourseUnder Wide truth course
   pub each_piece : HasTruePieces picture course
   pub skeleton : HasSkeleton course f
 

@@ -2,8 +2,6 @@
 mod BesideFiles
 mod PrintedLineExamples
 pub mod Eois
-mod StrictRefusals
-pub mod StrictCourses
 mod NewFiles
 mod MendedNumbers
 mod MappedMore

@@ -3,7 +3,8 @@ use Rattle.std.specs.Prelude.{◌≡◌, ℕ, ◌<◌, List, [], ◌∷◌, leng
 use Rattle.std.specs.List.{AllByRecursion}
 use Rattle.jls_values.specs.Shape.{PictureShape}
 use Rattle.jls_partial.specs.Partial.{PartialPicture, readings_at}
-use Rattle.jls_copy.specs.CopyReads.{CopyReads}
+use Rattle.jls_marker.specs.declared.profile.Profile.TheVariants.{Wide}
+use Rattle.jls_copy.specs.CopyReads.{CopyReadsUnder}
 use Rattle.jls_copy.specs.ReadCopy.{ReadCopy}
 use Rattle.jls_held.specs.MendedFiles.{MendedFile}
 use Rattle.jls_search.specs.Faultless.{EndsWell, IsFaultless}
@@ -23,13 +24,13 @@ pub record HaveSameSize (s t : PictureShape) : Type 0 where
   pub height_is : s.height ≡ t.height
   pub components_are : length s.ids ≡ length t.ids
 
--- The file has no fault. Its scans are by line: it is read under the strict profile, and no fault of the headers ends it. It gives each
--- line of the picture, and no other line. Its precision may be another
+-- The file has no fault. It is read under the wide profile, by line and by sample. It gives each line of the picture, and no other line. Its
+-- precision may be another
 pub record ReadsAs (p : PartialPicture) (file : List ℕ) : Type 0 where
   pub are_bytes : AllByRecursion (λ b. b < 256) file
   pub faultless : IsFaultless file
   pub read : ReadCopy
-  pub reads : CopyReads file read
+  pub reads : CopyReadsUnder Wide file read
   pub ends : EndsWell read.ended
   pub same_size : HaveSameSize read.partial.shape p.shape
   pub each_alike : (component : ℕ) → component < length p.shape.ids → HaveComponentAlike read.partial p component

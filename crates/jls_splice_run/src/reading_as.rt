@@ -2,11 +2,12 @@
 
 ghost use Rattle.std.specs.Prelude.{◌≡◌, ℕ, List, ◌<◌, true, length, map, IfOk};
 ghost use Rattle.std.specs.List.{AllByRecursion};
-ghost use Rattle.jls_copy.specs.CopyReads.{CopyReads};
+ghost use Rattle.jls_marker.specs.declared.profile.Profile.TheVariants.{Wide};
+ghost use Rattle.jls_copy.specs.CopyReads.{CopyReadsUnder};
 ghost use Rattle.jls_held.specs.Mending.{file_of};
 ghost use Rattle.jls_splice_run.specs.ReadsAs.{EachReadsAs, HaveComponentAlike, HaveLineAlike, HaveSameSize, ReadsAs};
 
-use jls_copy::{CopyFault, CopyRead, CopyReader};
+use jls_copy::{CopyFault, CopyRead, WideReader};
 use jls_held::MendedCopy;
 use jls_partial::Partial;
 use jls_search::is_read_faultless;
@@ -80,7 +81,7 @@ pub(crate) fn are_one_picture(one: &Partial, other: &Partial) -> bool {
 
 /// Whether a file of which this was read has no fault, and gives each line of the picture, and no other.
 fn is_read_as(read: &CopyRead, picture: &Partial) -> bool
-    ensures { result ≡ true → (file : List ℕ) → CopyReads file read.now
+    ensures { result ≡ true → (file : List ℕ) → CopyReadsUnder Wide file read.now
         → AllByRecursion (λ b. b < 256) file → ReadsAs picture.now file }
 {
     let faultless = is_read_faultless(read);
@@ -98,7 +99,7 @@ fn is_read_as(read: &CopyRead, picture: &Partial) -> bool
 fn reads_as(alloc: Global, file: &[u8], picture: &Partial) -> Result<bool, AllocError>
     ensures { IfOk result (λ reads. reads ≡ true → ReadsAs picture.now file.now) }
 {
-    let mut reader = CopyReader::new(alloc);
+    let mut reader = WideReader::new(alloc);
     reader.feed(file)?;
     match reader.finish() {
         Ok(read) => Ok(is_read_as(&read, picture)),

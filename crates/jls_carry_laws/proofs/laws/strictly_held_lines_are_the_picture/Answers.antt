@@ -1,5 +1,6 @@
 use Rattle.jls_carry_laws.proofs.StrictHeads as strict_heads
+use Rattle.jls_marker.specs.declared.profile.Profile.TheVariants.{Wide}
 use Rattle.jls_carry_laws.proofs.laws.strictly_held_lines_are_the_picture.Goals as goal
 
 pub returns : goal.returns
-returns c = strict_heads.strictly_held_lines_are_the_picture c.pieces_stand_at_their_offsets.ensures c.strict_pieces_are_by_line.ensures
+returns c = strict_heads.strictly_held_lines_are_the_picture (c.pieces_stand_at_their_offsets_under.ensures Wide)

@@ -1,5 +1,5 @@
 use Rattle.std.proofs.Common.{◌≡◌, ℕ, ◌+◌, ◌<◌, ◌≤◌, true, false, get_or}
-use Rattle.jls_held.proofs.chain.is_code_held.Given as goal
+use Rattle.jls_held.proofs.code_ends.is_code_held.Given as goal
 
 -- the bytes so far are held
 abbrev pub invariant-loop-place : goal.invariant-loop-place

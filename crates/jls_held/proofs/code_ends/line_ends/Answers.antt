@@ -1,7 +1,7 @@
 use Rattle.std.proofs.Common.{◌≡◌, ◌<◌, ℕ, List, [], ◌∷◌, ◌++◌, length, map, take, get_or, sym, ap, ◌∙◌, arith, Bor, Vec, Global}
 use Rattle.std.proofs.lemmas.List.{length-map, map-append, get_or-map, take_more}
 use Rattle.jls_held.specs.FilePieces.{lines_of}
-use Rattle.jls_held.proofs.chain.line_ends.Goals as goal
+use Rattle.jls_held.proofs.code_ends.line_ends.Goals as goal
 
 abbrev now_of : Bor (List ℕ) → List ℕ
 now_of l = l.now

@@ -18,7 +18,7 @@ use Rattle.jls_copy.specs.declared.end.End.TheVariants.{Eoi, Input, Header}
 use Rattle.jls_marker.specs.declared.fault.MarkerFault.{MarkerFault}
 use Rattle.jls_marker.specs.declared.fault.MarkerFault.TheVariants as fault
 use Rattle.jls_search.specs.Faultless.{EndsWell}
-use Rattle.jls_splice_run.proofs.StrictRefusals.{refused_alike}
+use Rattle.jls_splice_laws.proofs.StrictRefusals.{refused_alike}
 
 -- The end ----------------------------------------------------------------------------------------------------------
 
