@@ -262,11 +262,6 @@ impl<'a> CopyState<'a> {
         })
     }
 
-    /// Whether a scan of it is by sample.
-    pub(crate) fn is_by_sample(&self) -> bool {
-        self.pieces.iter().any(|piece| piece.interval.by_sample)
-    }
-
     /// What it says of a line.
     pub(crate) fn claim(&self, place: usize) -> Option<Claim> {
         self.claims.get(place).copied().flatten()

@@ -60,22 +60,6 @@ fn copies_of(alloc: Global, codings: &[usize], coding: usize) -> Result<Vec<usiz
     Ok(numbers)
 }
 
-/// Whether copies by line are of several codings.
-fn are_several_by_line(states: &[CopyState<'_>], codings: &[usize]) -> bool {
-    let mut first = None;
-    for (state, coding) in states.iter().zip(codings) {
-        if state.has_eoi.is_none() || state.is_by_sample() {
-            continue;
-        }
-        match first {
-            None => first = Some(*coding),
-            Some(other) if other != *coding => return true,
-            Some(_) => {}
-        }
-    }
-    false
-}
-
 /// The mended files of all codings that have one, and the copies that agree with none.
 #[derive(Drop)]
 pub(crate) struct MendedCodings {
@@ -83,8 +67,7 @@ pub(crate) struct MendedCodings {
     pub(crate) strangers: Vec<usize>,
 }
 
-/// Mends the first copy of each coding whose own headers say what those of its coding do. A file by sample holds no line, so it is in the
-/// way of a promise. It comes only where copies by line are of one coding, or none: these hold too few lines for a promise.
+/// Mends the first copy of each coding whose own headers say what those of its coding do.
 pub(crate) fn mend_codings(
     alloc: Global,
     picture: &Picture,
@@ -98,12 +81,11 @@ pub(crate) fn mend_codings(
         strangers: Vec::new(alloc),
     };
     let mut done: Vec<usize> = Vec::new(alloc);
-    let by_line_alone = are_several_by_line(states, codings);
     for (state, (coding, is_own)) in states.iter().zip(codings.iter().zip(are_own)) {
         let (Some(has_eoi), true) = (state.has_eoi, is_own) else {
             continue;
         };
-        if done.contains(coding) || (by_line_alone && state.is_by_sample()) {
+        if done.contains(coding) {
             continue;
         }
         done.push(*coding)?;

@@ -65,8 +65,7 @@
 //! Flipped bits can change lines of a copy that reads to its end all the same. If it has another picture than what is settled, the wrong
 //! bytes of all copies are counted by either picture. What is settled is doubtful if it leaves no fewer.
 //!
-//! Copies by sample speak as others do, and whole rows of theirs have one code. They are mended too, but no line of a mended file by sample
-//! is held (`jls_held`), so that it is in the way of a promise. It is left out where copies by line are of several codings.
+//! Copies by sample speak as others do, and whole rows of theirs have one code. They are mended too.
 //!
 //! A copy agrees with no other if no line is settled, or if it has scan data and no run of its mended file. It is left out of that file.
 #![tactic(auto)]

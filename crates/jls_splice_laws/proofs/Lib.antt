@@ -18,6 +18,7 @@ mod CarriedRuns
 mod FailedRuns
 mod MadeExamples
 mod CarriedExamples
+mod HeldRowExamples
 mod HandedFiles
 mod StoppedRuns
 mod LongerFiles
