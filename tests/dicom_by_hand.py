@@ -14,7 +14,9 @@ from jls_tools.dicom.axis.align import Copy
 from jls_tools.dicom.axis.pieces import meet_again, pieces
 from jls_tools.dicom.axis.sectors import Pair
 from jls_tools.dicom.copies.instance import Instances
+from jls_tools.dicom.evidence.hidden_bits import hidden_at
 from jls_tools.dicom.evidence.witnessed import denied, is_same, why_odd
+from jls_tools.dicom.read.elements import Element
 from jls_tools.dicom.read.plain import Plain
 from jls_tools.dicom.read.tags import PIXEL_DATA
 from jls_tools.dicom.read.values import allows, is_half_of_numbers
@@ -120,6 +122,7 @@ def checks_of_places_by_hand(rng: random.Random) -> Iterator[Check]:
     yield "a text again and again", not pair.is_other_plain(0)
     yield "another text", pair.is_other_plain(SECTOR)
     yield from of_stuck_bits(rng)
+    yield from of_hidden_bits()
 
 
 def of_stuck_bits(rng: random.Random) -> Iterator[Check]:
@@ -137,6 +140,17 @@ def of_stuck_bits(rng: random.Random) -> Iterator[Check]:
             beside[at] = values[number % len(values)]
             own[at] = beside[at] | 16
         yield f"a lane of {len(values)} values: {bit}", stuck.bit_of(bytes(own), bytes(beside), 7) == bit
+
+
+def of_hidden_bits() -> Iterator[Check]:
+    """What a stuck bit hides is in doubt where it was taken, unless the VR of the value forbids the other bit."""
+    data, leaf = bytes(200) + b"1.25", Element(0x180050, b"DS", 192, 200, 4)
+    rows = (200, 4, b"1", 200), (200, 64, b"1", None), (200, 4, b"2", None), (150, 1, b"1", 150), (100, 1, b"1", None)
+    for place, bit, taken, wanted in rows:
+        copy = Copy("a", data, hidden=[(place, bit)])
+        header: Any = types.SimpleNamespace(copies=[copy], leaves=[leaf], outside=lambda begin, end: [(begin, end)])
+        found = hidden_at(header, changed(data, (200, taken)))
+        yield f"a hidden bit {bit} at {place}, where {taken!r} was taken: {found}", found == wanted
 
 
 def checks_of_frames_by_hand(small: File) -> Iterator[Check]:

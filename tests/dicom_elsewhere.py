@@ -82,6 +82,13 @@ def checks_of_seven_bits(bench: Bench, made: File, rng: random.Random) -> Iterat
     parts = changed(true, *((at, b"\x4d") for at in high[:3]))
     yield told(bench, "three bytes with seven bits", [parts, hurt], true, False, 1)
     yield told(bench, "another place of both", [between, changed(hurt, (high[2] + 300, b"\x11"))], true, False, 1)
+    flip = changed(true, (high[5], b"\x4d"))
+    yield told(bench, "a flip of one copy where another was sent with seven bits", [hurt, flip, lost], true, False, 1)
+    yield told(bench, "a flip elsewhere", [hurt, changed(true, (begin + 300, b"\x11")), lost], true)
+    first, code = true.index(made.frames[1]), made.frames[1]
+    for at in [at for at in range(60, 200) if code[at] > 0x7F][:12]:
+        copies = [changed(true, (first + at, bytes([code[at] & 0x7F]))), sent(true, first + at - 20, 60), hurt]
+        yield told(bench, f"a flip of a frame at {at} where another copy was sent with seven bits", copies, true, False)
     plain, at = with_value(made, lines_of(60))
     for step in (8, 64):
         places = [(at + 300 + step * number, plain[at + 300 + step * number]) for number in range(9)]

@@ -108,6 +108,13 @@ def checks_of_sectors_twice(bench: Bench, made: File, single: File, rng: random.
     copies = [changed(twice, in_frame(made, twice, at)) for at in range(2)]
     status, out, printed, _, _ = bench.mend(copies)
     yield f"a file that has a sector twice ({status}, {printed})", (status, out == twice) == (0, True)
+    twice, begin = with_value(made, letters[:2048] + letters + letters[:100] + letters)
+    border = -(-begin // SECTOR) * SECTOR
+    twice, _ = with_value(made, letters[:2048] + letters + letters[: -len(letters + letters[:2048]) % SECTOR] + letters)
+    copies = [changed(twice, (border + 2 * SECTOR, bytes(SECTOR))), changed(twice, in_frame(made, twice, 0))]
+    for copy in (1, 0):
+        status, out, printed, _, _ = bench.mend([copies[copy], copies[1 - copy]])
+        yield f"a sector of a text that stands twice ({status}, {printed})", (status, out == twice) == (0, True)
     true, _ = with_value(single, letters[:300])
     at = true.index(single.frames[0])
     border = -(-at // SECTOR) * SECTOR

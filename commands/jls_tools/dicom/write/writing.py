@@ -92,6 +92,9 @@ class Writing:
         for copy in self.frames.copies:
             for at, count in copy.stuck:
                 self.result.notes.append(f"a bit of {copy.path} is stuck in the page at {at}: {count} bytes rest on the other copies")
+            if copy.hidden:
+                what = "a byte there is" if len(copy.hidden) == 1 else f"{len(copy.hidden)} bytes there are"
+                self.result.notes.append(f"{what} in no other copy: each can have the other bit")
         for path, at, size in self.layout.put_in:
             self.result.notes.append(f"{size} bytes at {at} of {path} are no part of the file: elements and items go on only without them")
         for begin, end in self.layout.breaks:
