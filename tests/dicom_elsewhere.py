@@ -40,6 +40,7 @@ def checks_of_bytes_elsewhere(bench: Bench, made: File) -> Iterator[Check]:
     at = true.index(b"Normal", begin + 700)
     near = [changed(true, (at + 2, b"s")), changed(true, (true.index(b"Normal", at + 6) + 2, b"s"))]
     yield told(bench, "another byte of the sector differs too (elsewhere)", near, true, False, 1)
+    yield "neither of both is decided (elsewhere)", bench.mend(near)[2].count("undecided;") == 2
     three = [changed(true, (at + 2, b"s")), hurt_in(true, made, 0), changed(true, (at // 512 * 512, (b"BAD-SECTOR " * 50)[:512]))]
     yield told(bench, "a letter, and a text over its sector in a third copy (elsewhere)", three, true)
     three[2] = changed(true, (at + 5, b"t"))
@@ -113,6 +114,8 @@ def checks_of_misplaced_sectors(bench: Bench, made: File, rng: random.Random) ->
     for name, (other, is_back) in others.items():
         for copies in ([moved, other], [other, moved]):
             yield told(bench, f"a sector of another place{name} (misplaced)", copies, true, is_back, None if is_back else 1)
+    printed = bench.mend([moved, others[", and damage where it stands"][0]])[2]
+    yield "neither the damage nor the sector is decided (misplaced)", printed.count("undecided;") > 1
 
 
 def checks_of_joints(bench: Bench, made: File, rng: random.Random) -> Iterator[Check]:
@@ -129,6 +132,8 @@ def checks_of_joints(bench: Bench, made: File, rng: random.Random) -> Iterator[C
     ):
         for copies in ([moved, other], [other, moved]):
             yield told(bench, f"{name} (joints)", copies, true, is_back, None if is_back else 1)
+    copies = [changed(true, (one, second), (two, first)), changed(true, (one - 20, b"Zz"), (two - 20, b"Zz"))]
+    yield "neither damage nor the sectors behind it are decided (joints)", bench.mend(copies)[2].count("undecided;") == 4
     digits = b"".join(b"%03d." % (at * 7919 % 1000) for at in range(2000))
     true, begin = with_value(made, digits)
     swapped = changed(true, (one, true[two : two + 512]), (two, true[one : one + 512]))
@@ -163,6 +168,9 @@ def checks_of_bits_in_zeros(bench: Bench, made: File, rng: random.Random) -> Ite
     true, begin = with_value(made, rng.randbytes(64) + bytes(3000) + rng.randbytes(64))
     edge = [changed(true, flip, (begin + 80, b"\x10")), changed(true, (true.index(made.frames[0]) + 70, b"\x5a"))]
     yield told(bench, "a bit where the zeros begin (in zeros)", edge, true, False, 1)
+    border = -(-(begin + 1200) // 512) * 512
+    behind = [changed(true, flip, (border - 10, b"\x10")), changed(true, (border + 20, b"\x01"))]
+    yield "a bit, and one of the other copy near it in the next sector (in zeros)", bench.mend(behind)[2].count("undecided;") == 2
 
 
 def checks_of_version_names(bench: Bench, made: File) -> Iterator[Check]:

@@ -68,8 +68,9 @@ def checks_of_decided_beside(bench: Bench, made: File, rng: random.Random) -> It
     other = (text, bytes([csa[text] ^ 0x11]))
     broken = (field + 76, b"\x99")
     own = [(csa.index(word), bytes(4)) for word in (b"ORIGINAL", b"20200131", b"MONOCHROME2")]  # so that no two have one header
-    for name, changes, wanted in (("a byte", [other], 0), ("a byte, and a broken tag", [other, broken], 1)):
-        copies = [changed(csa, in_frame(made, csa, at), own[at], *(changes if at else [])) for at in range(3)]
+    for name, more, wanted in (("a byte", [], 0), ("a byte, and a broken tag", [broken], 1)):
+        changes = [[], [other, *more], [other, *((at, b"\x9a") for at, _ in more)]]  # another one in each: they are of two sources
+        copies = [changed(csa, in_frame(made, csa, at), own[at], *changes[at]) for at in range(3)]
         status, out, printed, _, _ = bench.mend(copies)
         yield f"{name}: {wanted} ({status}, {printed})", status == wanted and (out == changed(csa, other) if wanted == 0 else out is None)
 
@@ -108,13 +109,6 @@ def checks_of_sectors_twice(bench: Bench, made: File, single: File, rng: random.
     copies = [changed(twice, in_frame(made, twice, at)) for at in range(2)]
     status, out, printed, _, _ = bench.mend(copies)
     yield f"a file that has a sector twice ({status}, {printed})", (status, out == twice) == (0, True)
-    twice, begin = with_value(made, letters[:2048] + letters + letters[:100] + letters)
-    border = -(-begin // SECTOR) * SECTOR
-    twice, _ = with_value(made, letters[:2048] + letters + letters[: -len(letters + letters[:2048]) % SECTOR] + letters)
-    copies = [changed(twice, (border + 2 * SECTOR, bytes(SECTOR))), changed(twice, in_frame(made, twice, 0))]
-    for copy in (1, 0):
-        status, out, printed, _, _ = bench.mend([copies[copy], copies[1 - copy]])
-        yield f"a sector of a text that stands twice ({status}, {printed})", (status, out == twice) == (0, True)
     true, _ = with_value(single, letters[:300])
     at = true.index(single.frames[0])
     border = -(-at // SECTOR) * SECTOR

@@ -34,7 +34,6 @@ HOLE = re.compile(rb"(?<=[\t\n\r\x20-\x7e]{32})([\0\x7f-\xff])\1{15,}(?=[\t\n\r\
 NEAR = 8  # so many equal bytes between two places, at least, show that damage ends there
 LONG = 16  # bytes on each side of a change
 LEAST_REST = 64  # bytes of a sector that the file ends in, at least, if it is compared with others
-LEAST_KINDS = 8  # so many different bytes, at least, stand beside a sector whose surroundings stand twice
 DAMAGED = 4  # one byte in so many of a sector of frames, at most, can be damaged where it is seen to be at its place
 BESIDE = SECTOR + 64  # bytes of the file beside a place, in which a hole and the text around it stand
 
@@ -100,22 +99,14 @@ def ends_before(copies: Sequence[Copy], end: int) -> Optional[int]:
 def stands_twice(header: Header, data: bytes) -> Optional[int]:
     """Where a sector begins in which copies differ and that the file has elsewhere too, as if a disk had written it to a wrong place.
 
-    Where most of it is of frames, and two copies have it or nearly so, the frames show that it is at its place. So does what stands before
-    and behind it, if it stands a second time too: a disk writes no more than the sector.
+    Where most of it is of frames, and two copies have it or nearly so, the frames show that it is at its place.
     """
     for border in sorted({begin // SECTOR * SECTOR for parts in header.parts.values() for begin, _ in parts}):
         sector = data[border : border + SECTOR]
-        others = (at for at in places_of(sector, data) if at != border and not repeats_around(data, border, at))
-        is_twice = len(sector) >= LEAST_REST and not period_of(sector) and any(True for _ in others)
+        is_twice = len(sector) >= LEAST_REST and not period_of(sector) and any(at != border for at in places_of(sector, data))
         if is_twice and not are_frames(header, border, sector):
             return border
     return None
-
-
-def repeats_around(data: bytes, border: int, other: int) -> bool:
-    """Whether the bytes before and behind a sector are those before and behind another place, and of several values."""
-    parts = [(data[max(0, at - LEAST_REST) : at], data[at + SECTOR : at + SECTOR + LEAST_REST]) for at in (border, other)]
-    return parts[0] == parts[1] and all(len(set(part)) >= LEAST_KINDS for part in parts[0])
 
 
 def are_frames(header: Header, border: int, sector: bytes) -> bool:
