@@ -169,8 +169,8 @@ def checks_of_bits_in_zeros(bench: Bench, made: File, rng: random.Random) -> Ite
     edge = [changed(true, flip, (begin + 80, b"\x10")), changed(true, (true.index(made.frames[0]) + 70, b"\x5a"))]
     yield told(bench, "a bit where the zeros begin (in zeros)", edge, true, False, 1)
     border = -(-(begin + 1200) // 512) * 512
-    behind = [changed(true, flip, (border - 10, b"\x10")), changed(true, (border + 20, b"\x01"))]
-    yield "a bit, and one of the other copy near it in the next sector (in zeros)", bench.mend(behind)[2].count("undecided;") == 2
+    near = [changed(true, flip, (border + 4, b"\x10")), changed(true, (border - 40, b"\x03"))]
+    yield "a bit, and a byte of the other copy before it in the sector before (in zeros)", bench.mend(near)[2].count("undecided;") == 2
 
 
 def checks_of_version_names(bench: Bench, made: File) -> Iterator[Check]:

@@ -234,6 +234,11 @@ def checks_of_hidden_bits(bench: Bench, made: File, rng: random.Random) -> Itera
     true, page = big.bytes, big.items[0] // PAGE * PAGE + PAGE
     copies = [stuck(true, page, 17, 4, True), changed(true, (page + 1024, lost))]
     yield told(bench, "a bit of a frame that is lost in the other copy: of the ways that it can be one reads", copies, true)
+    deep = File([frame(rng, 16, 60, 80, bench.folder)], 16, 60, 80)
+    page = deep.items[0] // PAGE * PAGE + PAGE
+    for lane in range(5, 64, 7):
+        copies = [stuck(deep.bytes, page, lane, 2, True), changed(deep.bytes, (page + 1024, lost))]
+        yield told(bench, f"the same of 16 bits, in byte {lane}: both can read", copies, deep.bytes, False)
 
 
 def checks_of_runs(bench: Bench, made: File, rng: random.Random) -> Iterator[Check]:

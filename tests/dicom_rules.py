@@ -63,8 +63,8 @@ def checks_of_terms(bench: Bench, made: File) -> Iterator[Check]:
     """A known term is told from a text that is none. Of two known ones, and of two others, nothing is."""
     true = made.bytes
     sex = changed(true, (true.index(b"PRIVATE "), b"ACUSON  "))
-    types = [element(0x80008, "CS", "ORIGINAL\\PRIMARY" + more) for more in ("", "\\MY OWN")]
-    own = true.replace(*types)
+    usual, more = (element(0x80008, "CS", "ORIGINAL\\PRIMARY" + rest) for rest in ("", "\\MY OWN"))
+    own = true.replace(usual, more)
     for name, data, old, new, is_decided in (
         ("an image type beside a value that is not known", own, b"\\PRIMARY", b"\\PRIMARQ", True),
         ("a value that is not known", own, b"MY OWN", b"MY OWM", False),
