@@ -9,12 +9,14 @@ from typing import Any
 
 from dicom_files import File, changed
 from jls_tools.dicom import layout
-from jls_tools.dicom.axis import bad_places, inserted, stuck
+from jls_tools.dicom.axis import bad_places, in_filler, inserted, stuck
 from jls_tools.dicom.axis.align import Copy
 from jls_tools.dicom.axis.pieces import meet_again, pieces
 from jls_tools.dicom.axis.sectors import Pair
 from jls_tools.dicom.copies.instance import Instances
+from jls_tools.dicom.evidence.hidden_bits import hidden_at
 from jls_tools.dicom.evidence.witnessed import denied, is_same, why_odd
+from jls_tools.dicom.read.elements import Element
 from jls_tools.dicom.read.plain import Plain
 from jls_tools.dicom.read.tags import PIXEL_DATA
 from jls_tools.dicom.read.values import allows, is_half_of_numbers
@@ -119,7 +121,14 @@ def checks_of_places_by_hand(rng: random.Random) -> Iterator[Check]:
     pair = Pair(bytes(3 * SECTOR), text + words, [])
     yield "a text again and again", not pair.is_other_plain(0)
     yield "another text", pair.is_other_plain(SECTOR)
+    one, other, first, second = (bytearray(rng.randbytes(size)) for size in (600, 900, 32, 32))
+    one[16:48] = other[316:348] = first
+    one[128:160] = other[278:310] = second
+    found = meet_again(bytes(one), bytes(other), 0, 0)
+    yield f"of two places where both meet the nearer one: {found}", found == (128, 278)
     yield from of_stuck_bits(rng)
+    yield from of_hidden_bits()
+    yield from of_losses_in_filler(rng)
 
 
 def of_stuck_bits(rng: random.Random) -> Iterator[Check]:
@@ -137,6 +146,27 @@ def of_stuck_bits(rng: random.Random) -> Iterator[Check]:
             beside[at] = values[number % len(values)]
             own[at] = beside[at] | 16
         yield f"a lane of {len(values)} values: {bit}", stuck.bit_of(bytes(own), bytes(beside), 7) == bit
+
+
+def of_losses_in_filler(rng: random.Random) -> Iterator[Check]:
+    """A loss in bytes of one value stands where another copy lacks as many, if one copy alone has bytes there."""
+    data, part = rng.randbytes(4008), (1000, 1008)
+    for value, wanted in ((b"\0", part), (b"\0\1", (3000, 3008))):
+        filled = data[:900] + (value * 4008)[:3108]
+        copies = [Copy("a", data), Copy("b", data, [part]), Copy("c", filled, [(3000, 3008)])]
+        absent = in_filler.with_others(copies)[2].absent
+        yield f"a loss in bytes of {len(value)} values: {absent}", absent == [wanted]
+
+
+def of_hidden_bits() -> Iterator[Check]:
+    """What a stuck bit hides is in doubt where it was taken, unless the VR of the value forbids the other bit."""
+    data, leaf = bytes(200) + b"1.25", Element(0x180050, b"DS", 192, 200, 4)
+    rows = (200, 4, b"1", 200), (200, 64, b"1", None), (200, 4, b"2", None), (150, 1, b"1", 150), (100, 1, b"1", None)
+    for place, bit, taken, wanted in rows:
+        copy = Copy("a", data, hidden=[(place, bit)])
+        header: Any = types.SimpleNamespace(copies=[copy], leaves=[leaf], outside=lambda begin, end: [(begin, end)])
+        found = hidden_at(header, changed(data, (200, taken)))
+        yield f"a hidden bit {bit} at {place}, where {taken!r} was taken: {found}", found == wanted
 
 
 def checks_of_frames_by_hand(small: File) -> Iterator[Check]:

@@ -40,6 +40,7 @@ def checks_of_bytes_elsewhere(bench: Bench, made: File) -> Iterator[Check]:
     at = true.index(b"Normal", begin + 700)
     near = [changed(true, (at + 2, b"s")), changed(true, (true.index(b"Normal", at + 6) + 2, b"s"))]
     yield told(bench, "another byte of the sector differs too (elsewhere)", near, true, False, 1)
+    yield "neither of both is decided (elsewhere)", bench.mend(near)[2].count("undecided;") == 2
     three = [changed(true, (at + 2, b"s")), hurt_in(true, made, 0), changed(true, (at // 512 * 512, (b"BAD-SECTOR " * 50)[:512]))]
     yield told(bench, "a letter, and a text over its sector in a third copy (elsewhere)", three, true)
     three[2] = changed(true, (at + 5, b"t"))
@@ -82,6 +83,13 @@ def checks_of_seven_bits(bench: Bench, made: File, rng: random.Random) -> Iterat
     parts = changed(true, *((at, b"\x4d") for at in high[:3]))
     yield told(bench, "three bytes with seven bits", [parts, hurt], true, False, 1)
     yield told(bench, "another place of both", [between, changed(hurt, (high[2] + 300, b"\x11"))], true, False, 1)
+    flip = changed(true, (high[5], b"\x4d"))
+    yield told(bench, "a flip of one copy where another was sent with seven bits", [hurt, flip, lost], true, False, 1)
+    yield told(bench, "a flip elsewhere", [hurt, changed(true, (begin + 300, b"\x11")), lost], true)
+    first, code = true.index(made.frames[1]), made.frames[1]
+    for at in [at for at in range(60, 200) if code[at] > 0x7F][:12]:
+        copies = [changed(true, (first + at, bytes([code[at] & 0x7F]))), sent(true, first + at - 20, 60), hurt]
+        yield told(bench, f"a flip of a frame at {at} where another copy was sent with seven bits", copies, true, False)
     plain, at = with_value(made, lines_of(60))
     for step in (8, 64):
         places = [(at + 300 + step * number, plain[at + 300 + step * number]) for number in range(9)]
@@ -106,6 +114,8 @@ def checks_of_misplaced_sectors(bench: Bench, made: File, rng: random.Random) ->
     for name, (other, is_back) in others.items():
         for copies in ([moved, other], [other, moved]):
             yield told(bench, f"a sector of another place{name} (misplaced)", copies, true, is_back, None if is_back else 1)
+    printed = bench.mend([moved, others[", and damage where it stands"][0]])[2]
+    yield "neither the damage nor the sector is decided (misplaced)", printed.count("undecided;") > 1
 
 
 def checks_of_joints(bench: Bench, made: File, rng: random.Random) -> Iterator[Check]:
@@ -122,6 +132,8 @@ def checks_of_joints(bench: Bench, made: File, rng: random.Random) -> Iterator[C
     ):
         for copies in ([moved, other], [other, moved]):
             yield told(bench, f"{name} (joints)", copies, true, is_back, None if is_back else 1)
+    copies = [changed(true, (one, second), (two, first)), changed(true, (one - 20, b"Zz"), (two - 20, b"Zz"))]
+    yield "neither damage nor the sectors behind it are decided (joints)", bench.mend(copies)[2].count("undecided;") == 4
     digits = b"".join(b"%03d." % (at * 7919 % 1000) for at in range(2000))
     true, begin = with_value(made, digits)
     swapped = changed(true, (one, true[two : two + 512]), (two, true[one : one + 512]))
@@ -156,6 +168,9 @@ def checks_of_bits_in_zeros(bench: Bench, made: File, rng: random.Random) -> Ite
     true, begin = with_value(made, rng.randbytes(64) + bytes(3000) + rng.randbytes(64))
     edge = [changed(true, flip, (begin + 80, b"\x10")), changed(true, (true.index(made.frames[0]) + 70, b"\x5a"))]
     yield told(bench, "a bit where the zeros begin (in zeros)", edge, true, False, 1)
+    border = -(-(begin + 1200) // 512) * 512
+    near = [changed(true, flip, (border + 4, b"\x10")), changed(true, (border - 40, b"\x03"))]
+    yield "a bit, and a byte of the other copy before it in the sector before (in zeros)", bench.mend(near)[2].count("undecided;") == 2
 
 
 def checks_of_version_names(bench: Bench, made: File) -> Iterator[Check]:

@@ -105,6 +105,17 @@ def checks_of_transfers(bench: Bench, made: File, small: File, single: File) -> 
     true, at = with_value(made, 4 * lines.replace(b"\n", b"\r\n"))
     copies = [sent_as_text(true), damaged_value(true, at)]
     yield case(bench, "carriage returns and line feeds alone, one copy sent as text", copies, 0, true, "carriage return before each")
+    even, at = with_value(made, b"".join(b"%d lines of a slice and %d more\n" % (line, line * line) for line in range(150)))
+    sent = sent_as_text(even)
+    border = sent.rfind(b"\xff\xd8\xff\xf7") + 60
+    filled = sent[:border] + bytes(len(sent) - border)
+    for copies in ([filled, even], [filled, sent]):
+        yield case(bench, "one copy sent as text, and zeros from some place on", copies, 0, even, "carriage return before each line feed")
+    returns, at = with_value(made, b"".join(b"%d lines of a slice and %d more\r\n" % (line, line * line) for line in range(150)))
+    border = returns.rfind(b"\xff\xd8\xff\xf7") + 60
+    filled = returns[:border] + bytes(len(returns) - border)
+    status, out, printed, _, _ = bench.mend([filled, returns])
+    yield f"lines of the file, and zeros from some place on ({status}, {printed})", (out, "put a carriage" in printed) == (returns, False)
     noise = changed(true, (at + 300, b"\n\3\n\7" * 60))
     few, place = with_value(made, lines + b"of a slice\r\n" * 12)
     yield case(bench, "some line feeds, and as many lost bytes", [few, few[: place + 700] + few[place + 712 :]], 0, few)

@@ -202,6 +202,9 @@ def checks_of_stuck_bits(bench: Bench, made: File, rng: random.Random) -> Iterat
     yield told(bench, "a bit of a text, and bytes put into the other copy in that page", [lost, inside], true)
     printed = bench.mend([lost, inside])[2]
     yield f"it is told once ({printed})", printed.count("is stuck in the page at") == 1
+    short = changed(true, zeros)
+    short = short[: page + 1200] + short[page + 1209 :]
+    yield told(bench, "a bit of a text, and bytes the other copy lost in that page", [lost, short], true)
     yield told(bench, "a bit of frames, and the other copy's end is lost", [noisy[0], true[:-8]], true)
     part = stuck(true, page, 17, 0x80, True, 1024)
     yield told(bench, "the highest bit in a part of a page of text: it is not that of the other copy", [true, part], true, False)
@@ -212,6 +215,30 @@ def checks_of_stuck_bits(bench: Bench, made: File, rng: random.Random) -> Iterat
     table, at = with_value(made, b"".join(struct.pack("<16I", 1, *range(n, n + 15)) for n in range(150)))
     some = changed(table, *((at + 64 * n, b"\0") for n in range(70, 76)))
     yield told(bench, "ones that are true in a table", [table, some], table, False)
+
+
+def checks_of_hidden_bits(bench: Bench, made: File, rng: random.Random) -> Iterator[Check]:
+    """A bit that is stuck in a lane of a page, of which the other copy lost some bytes: there it hides what the file has."""
+    words = b"".join(b"sSlice[%d].dFlow%d = %d\n" % (at, at % 9, rng.randrange(10**9)) for at in range(500))
+    true, begin = with_value(made, words)
+    page, lost = -(-begin // PAGE) * PAGE, bytes(512)
+    one, other = stuck(true, page, 17, 4, True), changed(true, (page + 1024, lost))
+    yield told(bench, "a bit of a text that is lost in the other copy", [one, other], true, False, 1)
+    printed = bench.mend([one, other])[2]
+    at = page + 1024 + 17
+    is_told = "bytes there are in no other copy" in printed and f"a bit of a copy is stuck at {at}, and no" in printed
+    yield f"both are told ({printed})", is_told
+    third = changed(true, (begin + 40, b"\0"))
+    yield told(bench, "one that a third copy has", [one, other, third], true)
+    big = File([frame(rng, 8, 120, 120, bench.folder)], 8, 120, 120)
+    true, page = big.bytes, big.items[0] // PAGE * PAGE + PAGE
+    copies = [stuck(true, page, 17, 4, True), changed(true, (page + 1024, lost))]
+    yield told(bench, "a bit of a frame that is lost in the other copy: of the ways that it can be one reads", copies, true)
+    deep = File([frame(rng, 16, 60, 80, bench.folder)], 16, 60, 80)
+    page = deep.items[0] // PAGE * PAGE + PAGE
+    for lane in range(5, 64, 7):
+        copies = [stuck(deep.bytes, page, lane, 2, True), changed(deep.bytes, (page + 1024, lost))]
+        yield told(bench, f"the same of 16 bits, in byte {lane}: both can read", copies, deep.bytes, False)
 
 
 def checks_of_runs(bench: Bench, made: File, rng: random.Random) -> Iterator[Check]:
@@ -280,4 +307,4 @@ def record(rng: random.Random, ways: Sequence[int], mask: int = 0xFF, first: int
 
 
 PUT_IN: list[Callable[..., Iterator[Check]]] = [checks_of_bytes_put_in, checks_of_zeros_behind, checks_of_put_in_beside_losses]
-PUT_IN += [checks_of_least_damage, checks_of_stuck_bits, checks_of_runs, checks_of_records, checks_of_other_sectors]
+PUT_IN += [checks_of_least_damage, checks_of_stuck_bits, checks_of_hidden_bits, checks_of_runs, checks_of_records, checks_of_other_sectors]

@@ -63,7 +63,11 @@ def checks_of_terms(bench: Bench, made: File) -> Iterator[Check]:
     """A known term is told from a text that is none. Of two known ones, and of two others, nothing is."""
     true = made.bytes
     sex = changed(true, (true.index(b"PRIVATE "), b"ACUSON  "))
+    usual, more = (element(0x80008, "CS", "ORIGINAL\\PRIMARY" + rest) for rest in ("", "\\MY OWN"))
+    own = true.replace(usual, more)
     for name, data, old, new, is_decided in (
+        ("an image type beside a value that is not known", own, b"\\PRIMARY", b"\\PRIMARQ", True),
+        ("a value that is not known", own, b"MY OWN", b"MY OWM", False),
         ("a photometric interpretation", true, b"MONOCHROME2", b"MONOCHROME3", True),
         ("an image type", true, b"ORIGINAL\\PRIMARY", b"ORIGINAL\\PRIMARQ", True),
         ("a private creator", sex, b"ACUSON", b"ACUSOJ", True),

@@ -58,6 +58,8 @@ def checks_of_tails(bench: Bench, made: File, neighbour: File) -> Iterator[Check
         yield case(bench, f"rests of other files{name}, and bytes lost before one", both, *wanted)
     both = [true + rests[0], damaged(made) + zeros]
     yield case(bench, "the rest of another file, and zeros", both, 1, b"", "what stands after the last element")
+    three = [true + rests[0], damaged(made) + bytes(3), damaged(made, 1) + rests[1]]
+    yield case(bench, "the rests of two other files, and zeros", three, 0, true, "they were cut from")
     yield case(bench, "rests of two other files, and zeros", [true + rests[0], damaged(made) + zeros, true + rests[1]], 0, true, "cut from")
     lower = element(0x185100, "CS", "HFS") + element(0x20000D, "UI", "1.2.3")
     reads_on = true + (lower * 300)[: len(rests[0])]

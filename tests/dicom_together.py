@@ -68,8 +68,10 @@ def checks_of_decided_beside(bench: Bench, made: File, rng: random.Random) -> It
     other = (text, bytes([csa[text] ^ 0x11]))
     broken = (field + 76, b"\x99")
     own = [(csa.index(word), bytes(4)) for word in (b"ORIGINAL", b"20200131", b"MONOCHROME2")]  # so that no two have one header
-    for name, changes, wanted in (("a byte", [other], 0), ("a byte, and a broken tag", [other, broken], 1)):
-        copies = [changed(csa, in_frame(made, csa, at), own[at], *(changes if at else [])) for at in range(3)]
+    one, two = [other, broken], [other, (field + 76, b"\x9a")]  # another broken tag in each: they are of two sources
+    for name, first, second, wanted in (("a byte", [other], [other], 0), ("a byte, and a broken tag", one, two, 1)):
+        changes: list[list[tuple[int, bytes]]] = [[], first, second]
+        copies = [changed(csa, in_frame(made, csa, at), own[at], *changes[at]) for at in range(3)]
         status, out, printed, _, _ = bench.mend(copies)
         yield f"{name}: {wanted} ({status}, {printed})", status == wanted and (out == changed(csa, other) if wanted == 0 else out is None)
 

@@ -184,6 +184,8 @@ def checks_of_sectors_of_text(bench: Bench, made: File, rng: random.Random) -> I
     ):
         for order in (copies, copies[::-1]):
             yield told(bench, f"{name} (sectors of one text)", order, wanted, is_back)
+    printed = bench.mend([changed(true, (2048, fill * 2)), other])[2]
+    yield f"each sector begins anew: it is one text ({printed})", "others are one text again and again" in printed
 
 
 def checks_of_even_frames(bench: Bench) -> Iterator[Check]:

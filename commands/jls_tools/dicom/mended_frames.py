@@ -7,6 +7,8 @@ from typing import Optional
 from jls_tools.dicom.axis.align import merged
 from jls_tools.dicom.axis.bad_places import Range, clipped, in_all, marked, note_of, within
 from jls_tools.dicom.axis.placed import in_no_copy
+from jls_tools.dicom.axis.seven_bits import sent_of_each
+from jls_tools.dicom.axis.stuck import with_bits, without_hidden
 from jls_tools.dicom.copies.given import Given
 from jls_tools.dicom.evidence.alone import Stranger
 from jls_tools.dicom.evidence.sources import sources_of
@@ -36,6 +38,7 @@ class MendedFrames:
         named = enumerate(zip(given.paths, given.texts))
         self.strange = [Stranger(path, text, at in given.instances.uncertain) for at, (path, text) in named if at not in chosen]
         self.sources = sources_of(self.copies, self.layout.runs, self.layout.structure.ways)
+        self.sent = sent_of_each([copy.data for copy in self.copies]) if len(self.copies) > 2 else [[] for _ in self.copies]
         self.own = [self.own_streams(place, [copy.data for copy in self.copies]) for place in self.layout.places]
         filled = self.own
         self.kept: dict[int, list[bytes]] = {}
@@ -43,11 +46,16 @@ class MendedFrames:
         self.searched: list[list[Searched]] = []  # of each frame what a search found
         if self.layout.has_header and is_through(self.layout.structure):
             lost = Lost(self.copies, self.layout)
-            texts = lost.filled()
+            texts = without_hidden(self.copies, lost.filled())
             filled = [self.own_streams(place, texts) for place in self.layout.places]
             self.kept = {place.number: lost.of_this_file(place, filled[place.number]) for place in self.layout.places}
             self.rivals = {place.number: lost.other_frames(place) for place in self.layout.places}
         self.streams = [list(dict.fromkeys(own.values())) for own in filled]
+        for place in self.layout.places:
+            hidden = self.with_hidden_bits(place)
+            self.streams[place.number] += hidden
+            if hidden and place.number in self.kept:
+                self.kept[place.number] += hidden
         if not self.layout.places:
             self.searched = paired_by_bytes(found for at in chosen for found in self.search(at))
             self.streams = [[found.stream for found in group] for group in self.searched]
@@ -169,11 +177,11 @@ class MendedFrames:
         return self.mender.mend_beside(mended, self.kept.get(number) or streams, bad, note_of(places), is_sure)
 
     def mended_by_most(self, number: int, begin: int) -> Optional[Mended]:
-        """A Mended of three copies or more: what most of them have, if it is whole; or nothing."""
+        """A Mended of three copies or more: what most of them have, if it is whole; or nothing. One sent with seven bits has no voice."""
         place = self.layout.places[number] if self.layout.places else None
         if place is None or any(copy.lacks(place.begin, place.end) for copy in self.copies if not copy.recoded):
             return None
-        own = self.own[number]
+        own = {copy: stream for copy, stream in self.own[number].items() if not within(self.sent[copy], place.fragments)}
         stream = equal_in_most(own, self.copies, self.layout.put_in, self.sources) or most_of(list(own.values()))
         mended = self.mender.mend(number, [stream], begin) if stream is not None else None
         return mended if mended and mended.is_whole else None
@@ -188,6 +196,15 @@ class MendedFrames:
             found = {number: stream.removesuffix(DELIMITER) for number, stream in found.items()}
         if any(stream.endswith(EOI_AND_PADDING) for stream in found.values()):
             found = {number: stream[:-1] if len(stream) == place.size else stream for number, stream in found.items()}
+        return found
+
+    def with_hidden_bits(self, place: FramePlace) -> list[bytes]:
+        """The streams of copies in which a stuck bit hides what a frame has, each with the other bits: one of both can read, or both."""
+        found = []
+        for copy in self.copies:
+            bits = [(at, bit) for at, bit in copy.hidden if any(begin <= at < end for begin, end in place.fragments)]
+            if bits:
+                found.append(place.stream(with_bits(copy.data, bits)))
         return found
 
     def refuse_unsupported(self) -> None:

@@ -31,7 +31,8 @@ class Copy:
 
     `bad` are ranges that a list names as bad, and `seen` those that look so: of the copy itself, and on the axis once they are `placed`.
     `recoded` are those of `absent` that the copy has in another coding: there it lost nothing. `stuck` are its pages in which a bit is
-    stuck: where each begins in the copy, and how many bytes are taken from others.
+    stuck: where each begins in the copy, and how many bytes are taken from others. `hidden` are (place, bit) of these pages where no other
+    copy has the byte: the bit can be the other one.
     """
 
     path: str
@@ -42,6 +43,7 @@ class Copy:
     seen: Sequence[tuple[int, int]] = ()
     recoded: Sequence[tuple[int, int]] = ()
     stuck: Sequence[tuple[int, int]] = ()
+    hidden: Sequence[tuple[int, int]] = ()
 
     @property
     def lost(self) -> list[tuple[int, int]]:

@@ -16,7 +16,7 @@ from jls_tools.dicom.read.elements import PIXELS_BEGIN
 from jls_tools.dicom.read.tags import PREAMBLE
 
 MOST_INSERTED = 4  # ranges, of which each combination is tried
-MOST_STEPS = 50000  # of elements and items, which all of these may take: those of a large file are some thousands
+MOST_STEPS = 1 << 18  # of elements and items, which all of these may take: those of a file of many frames are some ten thousands
 SMALLEST_ELEMENT = 8  # bytes: a tag, a VR and a length
 LEAST_TWICE = 16  # so many bytes, at least, stand twice by no chance
 BESIDE = 32  # so many bytes before and behind are equal in all copies, where nothing else can hide what happened

@@ -5,14 +5,21 @@ If the bytes are all as far apart as the lanes of a bus, that bit can be stuck i
 from __future__ import annotations
 
 import math
-from collections.abc import Iterator
+from collections.abc import Iterator, Sequence
 
+from jls_tools.dicom.axis.align import merged
 from jls_tools.dicom.axis.apart import Range, differing, size_of
 
 HIGHEST = 0x80
 LEAST = 4  # bytes that differ, at least: fewer cost no more as flipped bits, each for itself
 NEAR = 256  # so near they are to each other
 BUS = 8  # bytes, at least, of which a bit can be stuck in each
+
+
+def sent_of_each(texts: Sequence[bytes]) -> list[list[Range]]:
+    """The ranges in which each of several copies was sent so, as another one shows: there it says nothing of the highest bit."""
+    pairs = ([sent_in(own, other) for other in texts if other is not own] for own in texts)
+    return [merged(part for parts in found for part in parts) for found in pairs]
 
 
 def sent_in(own: bytes, other: bytes) -> Iterator[Range]:

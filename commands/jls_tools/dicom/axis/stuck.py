@@ -4,17 +4,20 @@ There the other copies differ from it in this bit alone. And it is odd for a lan
 page have both, or the other one. But a file can have records, with such a lane in each. Then another lane of the page is as odd, this one
 is so in the page before or after, or the other copy has the bit there more often than in the page. And one stretch of a lane in which the
 other copy differs can be damage of that copy.
+
+Where no other copy has a byte of such a lane, as they lost it, the bit hides what the file has.
 """
 from __future__ import annotations
 
 import math
 from collections import Counter
-from collections.abc import Iterator, Sequence
+from collections.abc import Iterable, Iterator, Mapping, Sequence
 from dataclasses import replace
 from typing import Optional
 
 from jls_tools.dicom.axis.align import Copy
 from jls_tools.dicom.axis.bad_places import Range
+from jls_tools.dicom.axis.media import SECTOR
 
 PAGE, LANE = 4096, 64
 LEAST = 4  # bytes of a lane that differ, at least: fewer cost no more as flipped bits, each for itself
@@ -32,17 +35,54 @@ def unstuck(copies: Sequence[Copy], named: Optional[str] = None) -> list[Copy]:
         others = [other for at, other in enumerate(copies) if at != number]
         pages: dict[int, int] = {}
         bits: dict[int, int] = {}
+        hidden: dict[int, int] = {}
         for begin, ranges in pages_of(copy):
             places = {place: bit for place, bit in places_stuck(copy, others, ranges) if place not in bits}
             if places:
+                for place, bit in unsaid(copy, others, ranges, places):
+                    is_shown = any(has_byte(other, place, copy.data[place] ^ bit) for other in others)
+                    (places if is_shown else hidden)[place] = bit
                 pages[begin] = pages.get(begin, 0) + len(places)
                 bits.update(places)
         if pages:
-            data = bytearray(copy.data)
-            for place, bit in bits.items():
-                data[place] ^= bit
-            found[number] = replace(copy, data=bytes(data), stuck=[*copy.stuck, *sorted(pages.items())])
+            data = with_bits(copy.data, bits.items())
+            found[number] = replace(copy, data=data, stuck=[*copy.stuck, *sorted(pages.items())], hidden=sorted(hidden.items()))
     return found
+
+
+def with_bits(data: bytes, bits: Iterable[tuple[int, int]]) -> bytes:
+    """Bytes with each of these bits turned: (place, bit)."""
+    changed = bytearray(data)
+    for place, bit in bits:
+        changed[place] ^= bit
+    return bytes(changed)
+
+
+def unsaid(copy: Copy, others: Sequence[Copy], ranges: Sequence[Range], stuck: Mapping[int, int]) -> list[tuple[int, int]]:
+    """[(place, bit)] of further bytes of stuck lanes that no other copy has: each can be so, or have the other bit.
+
+    `stuck` are the bytes of the page of which another copy shows that they are changed.
+    """
+    places = [at for part in ranges for at in range(*part)]
+    lanes = {(number % LANE, stuck[place]) for number, place in enumerate(places) if place in stuck}
+    found = ((place, bit) for lane, bit in sorted(lanes) for place in places[lane::LANE] if place not in stuck)
+    own = ((place, bit) for place, bit in found if not copy.lacks(place, place + 1))
+    return [(place, bit) for place, bit in own if not any(has_byte(other, place, copy.data[place]) for other in others)]
+
+
+def has_byte(copy: Copy, place: int, value: int) -> bool:
+    """Whether a copy itself has this byte at a place."""
+    return copy.data[place] == value and not copy.lacks(place, place + 1)
+
+
+def without_hidden(copies: Sequence[Copy], texts: Sequence[bytes]) -> list[bytes]:
+    """The bytes of each copy, with the sectors of another one where a stuck bit hides in it what they lost."""
+    found = [bytearray(text) for text in texts]
+    for number, copy in enumerate(copies):
+        for border in {place // SECTOR * SECTOR for place, _ in copy.hidden}:
+            for other in (other for at, other in enumerate(found) if at != number):
+                other[border : border + SECTOR] = texts[number][border : border + SECTOR]
+    return [bytes(text) for text in found]
 
 
 def pages_of(copy: Copy) -> Iterator[tuple[int, list[Range]]]:
@@ -79,17 +119,15 @@ def parts_of(copy: Copy) -> list[tuple[int, int, int]]:
 def places_stuck(copy: Copy, others: Sequence[Copy], ranges: Sequence[Range]) -> list[tuple[int, int]]:
     """[(place, bit)] of the bytes of a page that a stuck bit has changed, as another copy shows and no third one denies."""
     for other in others:
-        until = min((begin for begin, end in other.absent if ranges[0][0] < end and begin < ranges[-1][1]), default=ranges[-1][1])
-        parts = [(first, min(last, until)) for first, last in ranges if first < until]
-        own, model = (b"".join(each.data[first:last] for first, last in parts) for each in (copy, other))
+        own, model = (b"".join(each.data[first:last] for first, last in ranges) for each in (copy, other))
         if own == model:
             continue
         bits = {lane: bit_of(own, model, lane) for lane in range(min(LANE, len(own)))}
         lanes = [(lane, bit) for lane, bit in bits.items() if bit is not None]
-        places = [at for part in parts for at in range(*part)]
+        places = [at for part in ranges for at in range(*part)]
         found = [(places[at], bit) for lane, bit in lanes for at in range(lane, len(own), LANE) if model[at] == own[at] ^ bit]
         is_denied = any(third.data[at] == copy.data[at] and not third.lacks(at, at + 1) for at, _ in found for third in others)
-        if 0 < len(lanes) <= MOST_LANES and not is_denied and not has_records(copy.data, own, model, parts, lanes):
+        if 0 < len(lanes) <= MOST_LANES and not is_denied and not has_records(copy.data, own, model, ranges, lanes):
             return found
     return []
 

@@ -106,7 +106,9 @@ def are_padded(texts: list[bytes], owns: list[Optional[int]], end: int) -> bool:
 
 
 def are_strange(texts: list[bytes], owns: list[Optional[int]], end: int) -> bool:
-    """Whether all copies go on to the end of a sector, or end as another file does, and two at least have bytes of their own, no padding.
+    """Whether copies go on to the end of a sector, or end as another file does, and two at least have bytes of their own, no padding.
+
+    Others can have bytes of one value.
 
     Else it can be an element whose header is damaged in each copy. `owns` are where the elements of each may end: a sector of one that
     lost bytes before, or has too many, ends so much earlier or later.
@@ -115,7 +117,9 @@ def are_strange(texts: list[bytes], owns: list[Optional[int]], end: int) -> bool
     begins = {tail[:BEGIN] for tail in tails}
     are_own = None not in owns and len(tails) == len(begins) > 1 and not are_of_one_element(tails)
     sizes = [len(text) - (own or 0) + end for text, own in zip(texts, owns)]
-    return are_own and all(size % SECTOR == 0 or end_behind(text) == len(text) for size, text in zip(sizes, texts))
+    is_padding = [own is not None and not text[own:].strip(text[own : own + 1]) for text, own in zip(texts, owns)]
+    are_ends = (size % SECTOR == 0 or end_behind(text) == len(text) for size, text in zip(sizes, texts))
+    return are_own and all(one or other for one, other in zip(is_padding, are_ends))
 
 
 def are_of_one_element(tails: list[bytes]) -> bool:

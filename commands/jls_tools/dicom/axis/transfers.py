@@ -2,6 +2,7 @@
 
 It is undone in a copy that reads to its end then, and did not before, and in one that has then the length of another one. By chance few
 line feeds of codestreams have a carriage return before them. Where nearly all have one it is undone too, whatever the copy lost or got.
+So it is in one of which far more stands where another copy has it then, as in one that was filled with zeros from some place on.
 Other transfers take the carriage returns away that stand before line feeds.
 """
 from __future__ import annotations
@@ -17,6 +18,7 @@ SHARE = 0.9  # of the line feeds such a share has a carriage return before it; d
 LEAST = 8  # so many line feeds, at least, have one where nothing but the length, or codestreams alone, show a transfer
 BESIDE = 4  # so many bytes before and behind a line feed are not all of a text where it is of a codestream
 LINE_END, NO_TEXT = re.compile(rb"\r?\n"), re.compile(rb"[^\t\n\r\x20-\x7e]")
+BLOCK, MORE = 64, 16  # bytes of a part of a copy, and so many more of these parts stand where another copy has them
 
 
 def as_text(text: bytes) -> bool:
@@ -45,7 +47,20 @@ def undone(texts: Sequence[bytes]) -> dict[int, bytes]:
     sizes = [len(reading.get(at, text)) for at, text in enumerate(texts)]
     many = {at for at in binaries if texts[at].count(b"\r\n") >= LEAST}
     sure = {*reading, *(at for at in many if len(binaries[at]) in sizes[:at] + sizes[at + 1 :])}
+    sure |= {at for at in many - sure if is_more_alike(texts, at, binaries[at], [binaries[other] for other in sure])}
     return {at: binary for at, binary in binaries.items() if at in sure or is_coded_as_text(texts[at])}
+
+
+def is_more_alike(texts: Sequence[bytes], at: int, binary: bytes, known: Sequence[bytes]) -> bool:
+    """Whether far more of a copy stands where another one has it without its carriage returns. `known` are copies without theirs."""
+    others = [*(text for number, text in enumerate(texts) if number != at), *known]
+    return any(parts_alike(binary, other) >= 2 * parts_alike(texts[at], other) + MORE for other in others)
+
+
+def parts_alike(one: bytes, other: bytes) -> int:
+    """How many parts of two copies are equal at their places, and not of one value."""
+    parts = ((one[at : at + BLOCK], other[at : at + BLOCK]) for at in range(0, min(len(one), len(other)) - BLOCK + 1, BLOCK))
+    return sum(own == beside and own != own[:1] * BLOCK for own, beside in parts)
 
 
 def lost_returns(copy: Copy, copies: Sequence[Copy]) -> bool:

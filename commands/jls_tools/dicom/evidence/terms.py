@@ -7,7 +7,8 @@ Retired terms are known too, and no element whose terms are free has any.
 from __future__ import annotations
 
 import re
-from typing import TYPE_CHECKING
+from collections.abc import Collection, Sequence
+from typing import TYPE_CHECKING, Optional
 
 from jls_tools.dicom.read.elements import text_of
 from jls_tools.dicom.read.tags import PHOTOMETRIC, VERSION_NAME
@@ -83,14 +84,23 @@ def is_creator(tag: int) -> bool:
     return tag >> 16 & 1 == 1 and 0x10 <= tag & 0xFFFF <= 0xFF
 
 
-def is_term(tag: int, value: bytes) -> bool:
-    """Whether a value of this element is known."""
+def is_term(tag: int, value: bytes, places: Optional[Collection[int]] = None) -> bool:
+    """Whether a value of this element is known: all values of it, or those at these places alone."""
     text = text_of(value)
     if tag == VERSION_NAME:
         return bool(VERSION.match(text))
     if is_creator(tag):
         return text in CREATORS
-    return all(part.strip(" ").replace(" ", "_") in OF_TAG[tag] for part in text.split("\\"))
+    parts = (part for at, part in enumerate(text.split("\\")) if places is None or at in places)
+    return all(part.strip(" ").replace(" ", "_") in OF_TAG[tag] for part in parts)
+
+
+def places_apart(readings: Sequence[bytes]) -> Optional[list[int]]:
+    """At which places readings of an element have other values, if each has as many; else nothing. What they share need not be known."""
+    values = [text_of(reading).split("\\") for reading in readings]
+    if len({len(each) for each in values}) != 1:
+        return None
+    return [at for at, each in enumerate(zip(*values)) if len(set(each)) > 1]
 
 
 def is_known(tag: int | None, value: bytes) -> bool:
@@ -115,7 +125,8 @@ def by_terms(header: Header) -> None:
     for element in header.leaves:
         if has_terms(element.tag) and element.vr in TEXTS and header.open_runs(element.value, element.end):
             readings = header.readings(element.value, element.end)
-            known = [reading for reading in readings if is_term(element.tag, reading[0])]
-            others = [value for value, _ in readings if not is_term(element.tag, value)]
+            places = places_apart([value for value, _ in readings])
+            known = [reading for reading in readings if is_term(element.tag, reading[0], places)]
+            others = [value for value, _ in readings if not is_term(element.tag, value, places)]
             if known and all(any(is_made_of(element.tag, value, other) for value, _ in known) for other in others):
                 header.keep_readings(known, KNOWN)

@@ -10,6 +10,7 @@ from typing import TYPE_CHECKING, Optional
 from jls_tools.dicom.axis.bad_places import clipped
 from jls_tools.dicom.axis.media import SECTOR, SECTORS
 from jls_tools.dicom.axis.sectors import is_noise_alone
+from jls_tools.dicom.axis.seven_bits import sent_of_each
 from jls_tools.dicom.evidence.decider import DECIDED, IS_SECTOR
 from jls_tools.dicom.evidence.most import BY_MOST, are_lost_alike, has_other
 from jls_tools.dicom.evidence.sources import sources_of
@@ -59,14 +60,16 @@ def by_most(header: Header) -> None:
 
     A copy with another file's UID says nothing of numbers, which files of a series have otherwise. Nor does one that has another number
     near by, where no flipped bit explains what differs: two copies can have sectors of one other file. What looks lost makes no majority.
-    Copies of one damaged file have one voice.
+    Copies of one damaged file have one voice, and one that was sent with seven bits has none there.
     """
     whole = {number: ways for number, ways in header.left.items() if header.is_outside(number)}
     sources = sources_of(header.copies, header.runs, whole)
     strange, others = with_other_uid(header), with_other_numbers(header)
+    sent = sent_of_each([copy.data for copy in header.copies]) if len(header.copies) > 2 and header.open_runs() else []
     for number in header.open_runs():
         run = header.runs.runs[number]
-        silent = strange if are_numbers(header, number) else set()
+        silent = {copy for copy, ranges in enumerate(sent) if clipped(ranges, run.begin, run.end)}
+        silent |= strange if are_numbers(header, number) else set()
         if has_other_number(header, number):
             silent = silent | others.get(run.begin // SECTORS[0], set())
         holders = {way: header.holders_of(number, way) - silent for way in header.left[number]}

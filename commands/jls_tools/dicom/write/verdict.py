@@ -9,6 +9,7 @@ from jls_tools.dicom.evidence.borders import goes_on_nowhere
 from jls_tools.dicom.evidence.denials import contradiction, forbidden
 from jls_tools.dicom.evidence.doubtful import change_at, ends_before, hole_in_text, lost_in_each, lost_in_most, stands_twice
 from jls_tools.dicom.evidence.header import Header
+from jls_tools.dicom.evidence.hidden_bits import hidden_at
 from jls_tools.dicom.evidence.otherwise import stands_otherwise
 from jls_tools.dicom.evidence.uids import stands_against
 from jls_tools.dicom.evidence.witnessed import why_odd
@@ -85,6 +86,9 @@ class Verdict:
         at = ends_before(self.frames.copies, self.layout.structure.end_of_pixels())
         if at is not None:
             return f"a copy has the end of Pixel Data before {at}, where others go on"
+        at = hidden_at(self.header, data)
+        if at is not None:
+            return f"a bit of a copy is stuck at {at}, and no other copy has this byte"
         whole = self.with_frames()
         at = stands_twice(self.header, whole)
         if at is not None:

@@ -92,8 +92,12 @@ class Writing:
         for copy in self.frames.copies:
             for at, count in copy.stuck:
                 self.result.notes.append(f"a bit of {copy.path} is stuck in the page at {at}: {count} bytes rest on the other copies")
+            if copy.hidden:
+                what = "a byte there is" if len(copy.hidden) == 1 else f"{len(copy.hidden)} bytes there are"
+                self.result.notes.append(f"{what} in no other copy: each can have the other bit")
         for path, at, size in self.layout.put_in:
-            self.result.notes.append(f"{size} bytes at {at} of {path} are no part of the file: elements and items go on only without them")
+            what, them = (f"1 byte at {at} of {path} is", "it") if size == 1 else (f"{size} bytes at {at} of {path} are", "them")
+            self.result.notes.append(f"{what} no part of the file: elements and items go on only without {them}")
         for begin, end in self.layout.breaks:
             self.result.notes.append(f"no copy has what stands at {begin}: the next that reads is at {end}")
         if self.layout.structure.is_cut:
@@ -114,7 +118,7 @@ class Writing:
         else:
             self.result.is_short_of_frames = fault is None
             if fault is not None:
-                self.result.notes.append(f"OUT is not written: {fault}")
+                self.result.notes = [*(note for note in self.result.notes if note != fault), f"OUT is not written: {fault}"]
             self.write_frames()
 
     def write_whole(self, streams: list[bytes]) -> None:
