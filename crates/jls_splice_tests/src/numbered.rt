@@ -59,7 +59,7 @@ const ROWS: [Row; 18] = [
         copies: "60+8=85 / pixels 200+8=85",
         words: "--files NAME OUT 1 2",
         prefix: "NAME",
-        status: 1,
+        status: 0,
         numbered: &["scans", "pixels"],
         count: 2,
         reported: "copy 2 differs 200 8 8",

@@ -20,8 +20,7 @@ use std::test::Fail;
 /// The last bits of the twelfth stand in the next byte, which isn't known. By the same coder the third line of `broad` ends at byte 263,
 /// and the fourth of `broad_reset` begins at 278. In *two of them, and one is as well the other copy's* it codes the picture that has the
 /// second flip alone with RESET 3: at byte 271 it has another one than `reset`, and nowhere else. In *by sample, one place in all* four
-/// rows stand before it, whose code CharLS ends in 166 bytes. In *by sample, and a scan for each* the first row of component 1 ends before
-/// byte 47 of `scans`, and the second one behind byte 75, by CharLS.
+/// rows stand before it, whose code CharLS ends in 166 bytes.
 ///
 /// How often a search of levels tries is counted by hand: at each place, each path that lives goes on by both ways. In *three intervals*
 /// each wrong way ends with its interval, so there are 2 tries at each of 3 places. In the rows of `deep` nothing dies without a limit, so
@@ -53,10 +52,10 @@ by sample, a header and data: pixels: 2+30=0 / 200+8=85: OUT 1 2: 0 pixels: spli
 by sample, cut off after the damage: pixels: 200+999=lost / 60+8=85: OUT 1 2: 0 pixels: splices 1
 by sample, a flipped bit of the interleaving: pixels: 33+1=0 / 200+8=85: OUT 1 2: 0 pixels: splices 1
 by sample, the mended file: pixels: 60+8=85 / 200+8=85: --file NAME OUT 1 2: 0 pixels: splices 1
-by sample, and a scan for each: scans: 60+8=85 / pixels 200+8=85: OUT 1 2: 1 other: coding 1, copies 1 | coding 2, copies 2 | \
-copy 1 differs 60 8 8 | copy 2 differs 200 8 8 | promise lines | missing 1 1-7
+by sample, and a scan for each: scans: 60+8=85 / pixels 200+8=85: OUT 1 2: 0 scans: coding 1, copies 1 | coding 2, copies 2 | \
+copy 1 differs 60 8 8 | copy 2 differs 200 8 8
 by sample, beside two codings that lost the same row: scans: 50+8=85 / by_line 55+8=85 / pixels 250+8=85: OUT 1 2 3: 0 scans: \
-coding 1, copies 1 | coding 2, copies 2 | copy 3 left out | copy 1 differs 50 8 8 | copy 2 differs 55 8 8
+coding 1, copies 1 | coding 2, copies 2 | coding 3, copies 3 | copy 1 differs 50 8 8 | copy 2 differs 55 8 8 | copy 3 differs 250 8 8
 by sample, one place in all: pixels: 205+8=0 / 205+8=85: OUT 1 2: 1 other: missing 1 4-7 | missing 2 4-7 | missing 3 4-7
 one interval: restarts: 45+3=0 / 70+3=0: OUT 1 2: 0 restarts: splices 1
 two intervals: restarts: 50+4=0 / 140+4=0: OUT 1 2: 0 restarts: splices 1
