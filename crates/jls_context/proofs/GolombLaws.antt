@@ -43,7 +43,7 @@ least_from-at_least passes (suc count) from =
     [ inl e ↦ rw e (omega arith) | inr e ↦ (let later = least_from-at_least passes count (suc from) in rw e (omega arith)) ]
 
 -- no number before the one that is found passes
-least_from-before : (passes : ℕ → Bool) (count from j : ℕ) → from ≤ j → j < least_from passes count from → passes j ≡ false
+pub least_from-before : (passes : ℕ → Bool) (count from j : ℕ) → from ≤ j → j < least_from passes count from → passes j ≡ false
 unfolding least_from
 least_from-before passes zero from j low high = absurd (omega arith)
 least_from-before passes (suc count) from j low high =

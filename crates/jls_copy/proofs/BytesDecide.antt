@@ -1,5 +1,5 @@
 -- What a copy gives is determined by its bytes.
-use Rattle.std.proofs.Common.{◌≡◌, ℕ, ◌*◌, ◌<◌, inl, inr, Bool, true, false, List, [], ◌∷◌, ◌++◌, length, take, Option, Some, None, refl}
+use Rattle.std.proofs.Common.{◌≡◌, ℕ, ◌<◌, inl, inr, Bool, true, false, List, [], ◌∷◌, ◌++◌, length, take, Option, Some, None, refl}
 use Rattle.std.proofs.Common.{sym, ap, ◌∙◌, subst, arith}
 use Rattle.std.specs.List.{AllByRecursion}
 use Rattle.jls_values.specs.OrderedSet as set
@@ -11,7 +11,7 @@ use Rattle.jls_piece.proofs.PieceHeads.{one_head}
 use Rattle.jls_piece.proofs.PieceReads.{reads_once, read_not_long}
 use Rattle.jls_copy.specs.IntervalOf.{interval_of}
 use Rattle.jls_interval.proofs.EventsApart.{true_false}
-use Rattle.jls_marker.specs.Scan.{Scan, IsScan, row_count}
+use Rattle.jls_marker.specs.Scan.{Scan, IsScan}
 use Rattle.jls_marker.specs.declared.fault.MarkerFault.{MarkerFault}
 use Rattle.jls_copy.specs.Numbers.{PieceNumber, Interval, BeyondLast}
 use Rattle.jls_copy.specs.Pieces.{FoundPiece, pieces, PieceOutcome, Lines, Fault, IsOutcomeAt, AreOutcomes, readings, records}
@@ -25,6 +25,7 @@ use Rattle.jls_copy.specs.declared.piece.PieceKind.TheVariants as kind
 use Rattle.jls_copy.specs.declared.reader.CopyFault.TheVariants.{NoPicture}
 use Rattle.jls_copy.proofs.OneCourse.{one_course}
 use Rattle.jls_copy.proofs.ScansOfCourse.{HasScan, course_has}
+use Rattle.jls_copy.proofs.Gathering.{some_is}
 use Rattle.jls_marker.specs.declared.profile.Profile.{Profile}
 use Rattle.jls_marker.specs.declared.profile.Profile.TheVariants.{Strict}
 
@@ -85,9 +86,6 @@ read_eq : (r s : ReadCopy) → r.partial ≡ s.partial → r.pieces ≡ s.pieces
 read_eq r s e f g h =
     let x : r ≡ record { partial = s.partial; pieces = s.pieces; piece_count = s.piece_count; ended = s.ended } =
     rw (sym e, sym f, sym g, sym h) refl in x
-
-some_is : (a b : PictureShape) → Some a ≡ Some b → a ≡ b
-some_is a b e = cc
 
 -- One head
 one_head_at : (s : Scan) (n : PieceNumber) (bytes : List ℕ) (a b : List (List ℕ)) → IsScan s → IsHeadAt s n bytes a → IsHeadAt s n bytes b

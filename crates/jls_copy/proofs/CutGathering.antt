@@ -17,7 +17,7 @@ use Rattle.jls_copy.specs.ReaderState.{reading, end_at, closed_at_end}
 use Rattle.jls_copy.specs.declared.end.End.{End}
 use Rattle.jls_copy.specs.declared.findings.Findings.{Findings}
 use Rattle.jls_copy.specs.declared.machine.Machine.{Machine}
-use Rattle.jls_copy.proofs.Gathering.{are_more, readings_more, records_more, kept_more}
+use Rattle.jls_copy.proofs.Gathering.{are_more, readings_more, records_more, kept_more, some_is}
 use Rattle.jls_partial.specs.Partial.{without_sources}
 use Rattle.jls_marker.specs.declared.profile.Profile.{Profile}
 
@@ -75,9 +75,6 @@ cut_gathers frame ps (p ∷ []) old new g (shape, framed, adds) =
       count_is = adds.count_is ∙ ap (λ n. n + length (records_of p o)) g.count_is
           ∙ sym (length-append (records ps g.outcomes) (records_of p o)) ∙ ap length (sym (records_more ps g.outcomes p o g.each));
     }
-  where
-    some_is : (x y : PictureShape) → ◌≡◌ {A = Option PictureShape} (Some x) (Some y) → x ≡ y
-    some_is x y e = cc
 
 -- the input ends
 pub concluding : (profile : Profile) (m n : Machine) (bytes : List ℕ) (e : End) (read : ReadCopy) → IsReadingCopy profile m bytes

@@ -1,9 +1,9 @@
 -- A course that has a piece has a frame, and ends no earlier than the piece begins.
 use Rattle.std.proofs.Common.{◌≡◌, ℕ, ◌+◌, ◌≤◌, List, [], ◌∷◌, ◌++◌, length, Some, None, sym, ap, ◌∙◌, subst, arith, inl, inr}
 use Rattle.std.proofs.Common.{length-append}
-use Rattle.std.specs.List.{AllByRecursion, Contains, flat_map}
+use Rattle.std.specs.List.{Contains, flat_map}
 use Rattle.jls_values.specs.Shape.{PictureShape}
-use Rattle.jls_values.proofs.Lists.{is_first, in_rest, none_in, first_or_rest}
+use Rattle.jls_values.proofs.Lists.{is_first, in_rest, none_in, first_or_rest, all_at}
 use Rattle.jls_marker.specs.HeaderState.{HeaderState, no_headers_under}
 use Rattle.jls_marker.specs.Scan.{Scan, intervals}
 use Rattle.jls_marker.proofs.HeaderSteps.{frame_stays}
@@ -29,15 +29,6 @@ either X (x ∷ xs) ys q m f g =
     elim (first_or_rest q x (xs ++ ys) m) [
       | inl e ↦ f (subst (λ z. Contains (z ∷ xs) q) (sym e) (is_first q xs))
       | inr later ↦ either X xs ys q later (λ n. f (in_rest q x xs n)) g
-    ]
-
--- what holds of all pieces holds of one of them
-of_all : (P : FoundPiece → Type 0) (xs : List FoundPiece) (q : FoundPiece) → AllByRecursion P xs → Contains xs q → P q
-of_all P [] q h m = absurd (none_in q m)
-of_all P (x ∷ xs) q h m =
-    elim (first_or_rest q x xs m) [
-      | inl e ↦ subst P e h.0
-      | inr later ↦ of_all P xs q h.1 later
     ]
 
 -- Ends -------------------------------------------------------------------------------------------------------------
@@ -114,7 +105,7 @@ before_end profile _ _ (with_fill_alone n) q m = absurd (none_in q m)
 pub ends_after : (profile : Profile) (copy : List ℕ) (c : Course) → IsCourseUnder profile copy c → (q : FoundPiece) → Contains (pieces c) q
     → (q.offset ≤ length copy) × (q.offset ≤ offset_of_end c.end)
 ends_after profile copy c is q m =
-    let s = of_all (λ p. StandsAt copy p.offset p.bytes) (pieces c) q (pieces_stand_at_their_offsets profile copy c is) m in
+    let s = all_at (λ p. StandsAt copy p.offset p.bytes) (pieces c) q (pieces_stand_at_their_offsets profile copy c is) m in
     let size = ap length s.copy_is ∙ length-append s.prefix (q.bytes ++ s.back) in
     let at = s.offset_is in
     (omega (arith, size, at), before_end profile copy c is q m)

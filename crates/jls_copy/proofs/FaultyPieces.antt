@@ -10,8 +10,9 @@ use Rattle.jls_copy.specs.ReaderState.{StateWithPieces, closed_at, reading, read
 use Rattle.jls_copy.specs.declared.piece.PieceKind.{PieceKind}
 use Rattle.jls_copy.proofs.CopyFed.{outcome_alike}
 use Rattle.jls_copy.proofs.CourseFed.{course_fed}
-use Rattle.jls_copy.proofs.Prefixes.{alike_of, among_all, from_append}
+use Rattle.jls_copy.proofs.Prefixes.{alike_of, among_all}
 use Rattle.jls_copy.proofs.OneCourse.{one_course}
+use Rattle.jls_copy.proofs.Gathering.{from_append}
 use Rattle.jls_marker.specs.declared.profile.Profile.{Profile}
 
 -- of these pieces one is faulty

@@ -16,6 +16,7 @@ use Rattle.std.specs.List.{AllByRecursion}
 use Rattle.jls_values.specs.OrderedSet as set
 use Rattle.jls_values.specs.OrderedSetLaws.{insert_all-append}
 use Rattle.jls_values.specs.Shape.{PictureShape}
+use Rattle.jls_values.proofs.Lists.{all_bytes}
 use Rattle.jls_partial.specs.Partial.{PartialPicture, without_sources}
 use Rattle.jls_marker.specs.HeaderState.{HeaderState}
 use Rattle.jls_marker.specs.Scan.{Scan}
@@ -89,6 +90,10 @@ kept_more xs p (Fault f) = kept_one xs _
 pub none_some : {A : Type 0} (x : A) → ◌≡◌ {A = Option A} None (Some x) → ⊥
 none_some x e = cc
 
+-- one picture
+pub some_is : (x y : PictureShape) → ◌≡◌ {A = Option PictureShape} (Some x) (Some y) → x ≡ y
+some_is x y e = cc
+
 -- one piece more
 gathers_piece : (frame : Option PictureShape) (ps : List FoundPiece) (p : FoundPiece) (old new : Findings) → Gathers frame ps old
     → Adds frame (p ∷ []) old new → Gathers frame (ps ++ p ∷ []) new
@@ -109,9 +114,6 @@ gathers_piece frame ps p old new g (shape, framed, o, is, adds) = record {
   count_is = adds.count_is ∙ ap (λ n. n + length (records_of p o)) g.count_is ∙ sym (length-append (records ps g.outcomes) (records_of p o))
       ∙ ap length (sym (records_more ps g.outcomes p o g.each));
 }
-  where
-    some_is : (x y : PictureShape) → ◌≡◌ {A = Option PictureShape} (Some x) (Some y) → x ≡ y
-    some_is x y e = cc
 
 -- no piece or one
 gathers_pieces : (frame : Option PictureShape) (ps qs : List FoundPiece) (old new : Findings) → Gathers frame ps old → Adds frame qs old new
@@ -132,9 +134,6 @@ gathers_frame before now ps f stays g = record {
   count_is = g.count_is;
 }
   where
-    some_is : (x y : PictureShape) → ◌≡◌ {A = Option PictureShape} (Some x) (Some y) → x ≡ y
-    some_is x y e = cc
-
     fresh : (s : PictureShape) (os : List PieceOutcome) (p : Option PartialPicture) → (ps ≡ []) × (p ≡ None)
         → picture_of s p ≡ without_sources s (set.insert_all set.empty (readings ps os))
     fresh s os p (e, i) = rw (e, i) refl
@@ -231,7 +230,7 @@ pub held_shape : (frame : Option PictureShape) (ps : List FoundPiece) (f : Findi
 held_shape frame ps f g shape framed p e = ap (λ q. q.shape) (ap (picture_of shape) (sym e) ∙ g.picture_is shape framed)
 
 -- bytes that close no piece
-from_append : (r : StateWithPieces) (xs ys : List ℕ) → reading_from r (xs ++ ys) ≡ reading_from (reading_from r xs) ys
+pub from_append : (r : StateWithPieces) (xs ys : List ℕ) → reading_from r (xs ++ ys) ≡ reading_from (reading_from r xs) ys
 from_append r [] ys = refl
 from_append r (x ∷ xs) ys = from_append (reading_with r x) xs ys
 
@@ -300,11 +299,7 @@ all_prefix (suc n) (x ∷ xs) low = (low.0, all_prefix n xs low.1)
 pub bytes_between : (n m at : ℕ) (xs : List ℕ) → ((k : ℕ) → get_or xs k 0 < 256)
     → AllByRecursion (λ x. x < 256) (take n (take m (drop at xs)))
 bytes_between n m at xs each =
-    all_prefix n (take m (drop at xs)) (all_prefix m (drop at xs) (all_after at xs (all xs each)))
-  where
-    all : (xs : List ℕ) → ((k : ℕ) → get_or xs k 0 < 256) → AllByRecursion (λ x. x < 256) xs
-    all [] each = tt
-    all (x ∷ xs) each = (each 0, all xs (λ k. each (suc k)))
+    all_prefix n (take m (drop at xs)) (all_prefix m (drop at xs) (all_after at xs (all_bytes xs each)))
 
 -- the machine of a reader can take a step
 pub is_machine : (profile : Profile) (m : Machine) (bytes : List ℕ) → IsReadingCopy profile m bytes → IsMachine m

@@ -1,11 +1,11 @@
 -- The piece in hand begins with the code of its first lines, and goes on in each longer list of bytes.
-use Rattle.std.proofs.Common.{◌≡◌, ℕ, ◌*◌, ◌<◌, true, false, List, [], ◌∷◌, ◌++◌, length, Option, Some, None, refl, sym, ap, ◌∙◌, subst}
+use Rattle.std.proofs.Common.{◌≡◌, ℕ, ◌<◌, true, false, List, [], ◌∷◌, ◌++◌, length, Option, Some, None, refl, sym, ap, ◌∙◌, subst}
 use Rattle.std.proofs.Common.{Result, Ok, Err}
 use Rattle.std.proofs.Common.{append_assoc, length-append, arith, inl, inr}
 use Rattle.std.specs.Prelude.{IfOk, IfSome, Bool, if◌then◌else◌, map, ◌==◌}
 use Rattle.std.specs.List.{AllByRecursion, Contains}
 use Rattle.jls_values.specs.Shape.{PictureShape}
-use Rattle.jls_values.proofs.Lists.{in_rest, is_first, none_in}
+use Rattle.jls_values.proofs.Lists.{in_rest, is_first, none_in, all_at}
 use Rattle.jls_bits.specs.Bits.{bits_read_after, is_whole}
 use Rattle.jls_bits.specs.Appending.{last_after}
 use Rattle.jls_bits.proofs.Appending.{data_append}
@@ -40,10 +40,10 @@ use Rattle.jls_copy.proofs.CourseFed.{course_fed}
 use Rattle.jls_copy.proofs.CutOutcomes.{CutFinishes}
 use Rattle.jls_copy.proofs.OneCourse.{one_course}
 use Rattle.jls_copy.proofs.Outcomes.{decoding_is}
-use Rattle.jls_copy.proofs.Prefixes.{Stands, alike_of, among_all, at_once, from_append, of_alike, stands_from}
-use Rattle.jls_copy.proofs.PrefixReadings.{all_in}
+use Rattle.jls_copy.proofs.Prefixes.{Stands, alike_of, among_all, at_once, of_alike, stands_from}
 use Rattle.jls_copy.proofs.ScansOfCourse.{byte_parts}
 use Rattle.jls_copy.proofs.TellingLaws.{pieces_stand_at_their_offsets}
+use Rattle.jls_copy.proofs.Gathering.{from_append}
 use Rattle.jls_marker.specs.declared.profile.Profile.{Profile}
 
 -- Bytes of pieces --------------------------------------------------------------------------------------------------
@@ -58,7 +58,7 @@ piece_bytes : (profile : Profile) (copy : List ℕ) (c : Course) → AreBytes co
     → AreBytes p.bytes
 piece_bytes profile copy c low is p m =
     standing_bytes copy p.offset p.bytes low
-    (all_in (λ q. StandsAt copy q.offset q.bytes) (pieces c) p (pieces_stand_at_their_offsets profile copy c is) m)
+    (all_at (λ q. StandsAt copy q.offset q.bytes) (pieces c) p (pieces_stand_at_their_offsets profile copy c is) m)
 
 -- the piece that the input's end closes is one of all
 last_among : (ps : List FoundPiece) (q : FoundPiece) → Contains (last_piece ps) q → Contains ps q

@@ -1,12 +1,12 @@
 -- What the bytes so far give, each longer list of bytes gives whose pieces all read as lines.
-use Rattle.std.proofs.Common.{◌≡◌, ℕ, ◌+◌, ◌*◌, ◌<◌, ◌≤◌, Bool, true, List, [], ◌∷◌, ◌++◌, length, take, drop, sym, ap, ◌∙◌, subst}
+use Rattle.std.proofs.Common.{◌≡◌, ℕ, ◌+◌, ◌<◌, ◌≤◌, Bool, true, List, [], ◌∷◌, ◌++◌, length, take, drop, sym, ap, ◌∙◌, subst}
 use Rattle.std.proofs.Common.{append_assoc, length-append, arith, inl, inr}
 use Rattle.std.specs.Prelude.{◌==◌, get_or, if◌then◌else◌}
 use Rattle.std.specs.List.{AllByRecursion, Contains}
 use Rattle.std.proofs.lemmas.List.{take-append-drop, length-take-le}
 use Rattle.std.proofs.lemmas.List.Elements.{Contains-append_cases}
 use Rattle.jls_values.specs.Params.{AreCodingParameters}
-use Rattle.jls_values.proofs.Lists.{is_first, in_rest, none_in, first_or_rest}
+use Rattle.jls_values.proofs.Lists.{is_first, in_rest, none_in, first_or_rest, all_at}
 use Rattle.jls_bits.specs.Bits.{bits_read, bits_read_after, is_whole}
 use Rattle.jls_bits.specs.Appending.{last_after}
 use Rattle.jls_bits.proofs.Appending.{data_append, whole_prefix}
@@ -19,7 +19,7 @@ use Rattle.jls_interval.proofs.HeadLines.{prefix_lines}
 use Rattle.jls_piece.proofs.PieceCodes.{codes_apart, code_parts}
 use Rattle.jls_piece.proofs.PieceReads.{unwhole_reads_no_more}
 use Rattle.jls_copy.specs.IntervalOf.{interval_of}
-use Rattle.jls_marker.specs.Scan.{Scan, IsScan, row_count, first_row}
+use Rattle.jls_marker.specs.Scan.{Scan, IsScan, first_row}
 use Rattle.jls_partial.specs.Reading.{Reading, reading_of}
 use Rattle.jls_copy.specs.Course.{Course, IsCourseUnder}
 use Rattle.jls_copy.specs.CutPieces.{cut_pieces, IsHeadAt}
@@ -31,9 +31,10 @@ use Rattle.jls_copy.specs.ReaderState.{reading, closed_at_end}
 use Rattle.jls_copy.specs.Tells.{FedAs, AlikePiece}
 use Rattle.jls_copy.proofs.CourseFed.{course_fed}
 use Rattle.jls_copy.proofs.Prefixes.{alike_of, of_alike, at_once, Stands, stands_from}
-use Rattle.jls_copy.proofs.Prefixes.{from_append, among_all}
+use Rattle.jls_copy.proofs.Prefixes.{among_all}
 use Rattle.jls_copy.proofs.OneCourse.{one_course}
 use Rattle.jls_copy.proofs.ScansOfCourse.{HasScan, byte_parts, course_has}
+use Rattle.jls_copy.proofs.Gathering.{from_append}
 use Rattle.jls_marker.specs.declared.profile.Profile.{Profile}
 
 -- One interval -----------------------------------------------------------------------------------------------------
@@ -143,12 +144,6 @@ record GoesOn (d : Course) (p : FoundPiece) : Type 0 where
   tail : List ℕ
   bytes : (lines : List (List ℕ)) → IsOutcomeAt p.plan p.number piece.bytes (Lines lines) → piece.bytes ≡ p.bytes ++ tail
 
--- what holds of all pieces holds of one of them
-pub all_in : (P : FoundPiece → Type 0) (ps : List FoundPiece) (p : FoundPiece) → AllByRecursion P ps → Contains ps p → P p
-all_in P [] p h m = absurd (none_in p m)
-all_in P (q ∷ ps) p h m =
-    elim (first_or_rest p q ps m) [ inl e ↦ subst P e h.0 | inr later ↦ all_in P ps p h.1 later ]
-
 module _ (profile : Profile) (prefix more : List ℕ) (low : AllByRecursion (λ b. b < 256) (prefix ++ more)) (d : Course)
     (is_d : IsCourseUnder profile (prefix ++ more) d)
   where
@@ -177,8 +172,8 @@ module _ (profile : Profile) (prefix more : List ℕ) (low : AllByRecursion (λ 
           → (lines : List (List ℕ)) × IsScan p.plan × IsOutcomeAt p.plan p.number (p.bytes ++ g.tail) (Lines lines)
           × ((r : Reading) → Contains (readings_of p (Lines lines)) r → CourseHasReading d r)
       lines_of p g =
-          let h = all_in HasLines (pieces d) g.piece each g.among in
-          let scan = all_in HasScan (pieces d) g.piece (course_has (prefix ++ more) d low is_d) g.among in
+          let h = all_at HasLines (pieces d) g.piece each g.among in
+          let scan = all_at HasScan (pieces d) g.piece (course_has (prefix ++ more) d low is_d) g.among in
           let reads : IsOutcomeAt p.plan p.number g.piece.bytes (Lines h.0) =
           subst (λ n. IsOutcomeAt p.plan n g.piece.bytes (Lines h.0)) g.number
           (subst (λ s. IsOutcomeAt s g.piece.number g.piece.bytes (Lines h.0)) g.plan h.1) in (

@@ -1,5 +1,5 @@
 -- A piece that reads as no lines whatever follows is one in each longer list of bytes.
-use Rattle.std.proofs.Common.{◌≡◌, ℕ, ◌*◌, ◌<◌, false, List, [], ◌∷◌, ◌++◌, length, Option, Some, None, refl, sym, ap, ◌∙◌}
+use Rattle.std.proofs.Common.{◌≡◌, ℕ, ◌<◌, false, List, [], ◌∷◌, ◌++◌, Option, Some, None, refl, sym, ap, ◌∙◌}
 use Rattle.std.proofs.Common.{subst, append_assoc, ◌⊎◌, inl, inr}
 use Rattle.std.specs.Prelude.{IfSome}
 use Rattle.std.specs.Option.{option_map}
@@ -14,7 +14,7 @@ use Rattle.jls_piece.proofs.PieceReads.{unwhole_reads_no_more}
 use Rattle.jls_piece.specs.PieceBytes.{PieceBytes, piece_asked}
 use Rattle.jls_copy.proofs.Outcomes.{decoding_is}
 use Rattle.jls_marker.specs.HeaderState.{HeaderState}
-use Rattle.jls_marker.specs.Scan.{Scan, row_count}
+use Rattle.jls_marker.specs.Scan.{Scan}
 use Rattle.jls_copy.specs.Numbers.{PieceNumber, Interval, BeyondLast}
 use Rattle.jls_copy.specs.Pieces.{FoundPiece, Lines, IsOutcomeAt, pieces}
 use Rattle.jls_copy.specs.CutPieces.{cut_pieces}
@@ -35,6 +35,7 @@ use Rattle.jls_copy.proofs.OneCourse.{one_course}
 use Rattle.jls_copy.proofs.ScansOfCourse.{byte_parts}
 use Rattle.jls_copy.proofs.CourseFed.{course_fed}
 use Rattle.jls_copy.specs.IntervalOf.{interval_of}
+use Rattle.jls_copy.proofs.Gathering.{from_append}
 use Rattle.jls_marker.specs.declared.profile.Profile.{Profile}
 
 -- to each of the first pieces one of the second is alike
@@ -216,10 +217,6 @@ stands_with r b p (q, inr m, on) = by (next_is r.state.place r.state.count r.sta
 pub stands_from : (r : StateWithPieces) (bytes : List ℕ) (p : FoundPiece) → Stands r p → Stands (reading_from r bytes) p
 stands_from r [] p h = h
 stands_from r (b ∷ bytes) p h = stands_from (reading_with r b) bytes p (stands_with r b p h)
-
-pub from_append : (r : StateWithPieces) (xs ys : List ℕ) → reading_from r (xs ++ ys) ≡ reading_from (reading_from r xs) ys
-from_append r [] ys = refl
-from_append r (x ∷ xs) ys = from_append (reading_with r x) xs ys
 
 pub among_all : (r : StateWithPieces) (q : FoundPiece) → Contains r.pieces q ⊎ Contains (closed_at_end r.state.place) q
     → Contains (all_pieces r) q

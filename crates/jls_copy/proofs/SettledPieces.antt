@@ -29,11 +29,12 @@ use Rattle.jls_copy.proofs.CopyFed.{outcome_alike}
 use Rattle.jls_copy.proofs.CourseFed.{course_fed}
 use Rattle.jls_copy.proofs.EndsOfCourse.{either, ends_after, framed_by_piece}
 use Rattle.jls_copy.proofs.OneCourse.{one_course}
-use Rattle.jls_copy.proofs.Prefixes.{alike_of, among_all, at_once, from_append, of_alike, Stands}
+use Rattle.jls_copy.proofs.Prefixes.{alike_of, among_all, at_once, of_alike, Stands}
 use Rattle.jls_copy.proofs.Prefixes.{stands_from}
 use Rattle.jls_copy.proofs.FaultyPieces.{closed_stay}
 use Rattle.jls_copy.proofs.ReadingTells.{reading_counts}
 use Rattle.jls_copy.proofs.ScansOfCourse.{byte_parts}
+use Rattle.jls_copy.proofs.Gathering.{from_append}
 use Rattle.jls_marker.specs.declared.profile.Profile.{Profile}
 
 -- What begins later ------------------------------------------------------------------------------------------------

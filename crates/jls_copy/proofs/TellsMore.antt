@@ -11,15 +11,12 @@ use Rattle.jls_copy.specs.Pieces.{FoundPiece}
 use Rattle.jls_copy.specs.Course.{CopyUnit, at_eoi, at_eoi_before_a_frame, at_no_marker, at_unknown_code}
 use Rattle.jls_copy.specs.ReaderState.{from_start, from_marker}
 use Rattle.jls_copy.specs.Tells.{Passed, passed_soi, Follows, ended, without_soi, without_ff, Tells}
+use Rattle.jls_copy.proofs.OneMoreByte.{fills_more}
 use Rattle.jls_marker.specs.declared.profile.Profile.{Profile}
 
 -- one more fill byte at the end
-pub fill_more : (n : ℕ) (rest : List ℕ) → fill_bytes n ++ (255 ∷ rest) ≡ fill_bytes (suc n) ++ rest
-fill_more zero rest = refl
-fill_more (suc n) rest = ap (λ t. 255 ∷ t) (fill_more n rest)
-
-fill_snoc : (n : ℕ) → fill_bytes n ++ 255 ∷ [] ≡ fill_bytes (suc n)
-fill_snoc n = fill_more n [] ∙ append-nil _
+pub fill_snoc : (n : ℕ) → fill_bytes n ++ 255 ∷ [] ≡ fill_bytes (suc n)
+fill_snoc n = fills_more n [] ∙ append-nil _
 
 pub fill_length : (n : ℕ) → length (fill_bytes n) ≡ n
 fill_length zero = refl
@@ -38,11 +35,11 @@ start_more profile payload b (inr ne) = rw (not_fill b ne) (without_ff b [] (b �
 pub start_fill_more : (profile : Profile) (payload : List ℕ) (n b count : ℕ) → count ≡ suc n → (b ≡ 255) ⊎ (b ≢ 255) → (b ≡ 216) ⊎ (b ≢ 216)
     → Tells profile (from_start true count b) (no_headers_under profile) payload [] (fill_bytes (suc n) ++ b ∷ [])
 start_fill_more profile payload n b count c (inl e) q = rw e (suc n, fill_snoc (suc n), refl, refl)
-start_fill_more profile payload n b count c (inr ne) (inl e) = rw e ([], passed_soi n _ (sym (fill_more n (216 ∷ []))))
+start_fill_more profile payload n b count c (inr ne) (inl e) = rw e ([], passed_soi n _ (sym (fills_more n (216 ∷ []))))
 start_fill_more profile payload n b count c (inr ne) (inr q) =
     let f : (b == 216) ≡ false = grind (arith, nat_tests) in
     let at : count - 1 ≡ n = omega arith in
-    rw (not_fill b ne, f, at) (without_soi n b [] _ ne q (sym (fill_more n (b ∷ []))))
+    rw (not_fill b ne, f, at) (without_soi n b [] _ ne q (sym (fills_more n (b ∷ []))))
 
 -- where a marker may begin, with no fill byte
 module _ (profile : Profile) (before : List ℕ) (h : HeaderState) (us : List CopyUnit) (ps : List FoundPiece) where
@@ -71,12 +68,12 @@ module _ (profile : Profile) (before : List ℕ) (h : HeaderState) (us : List Co
       rw e (suc n, before, us, subst (Passed profile before h us ps) t p, ap (λ x. before ++ x) (fill_snoc (suc n)))
   fill_marker_more following payload n b count p c fol (inr ne) (inl e) (inl r) s t =
       let at : count - 1 ≡ length before + n = omega arith in
-      rw (e, r, at, ← fill_more n (217 ∷ []))
+      rw (e, r, at, ← fills_more n (217 ∷ []))
       (ended before h us ps following (fill_bytes n ++ (255 ∷ 217 ∷ [])) _ _ p refl (λ k. (n, 217, [], refl, refl))
       (at_eoi h (length before) n [] r))
   fill_marker_more following payload n b count p c fol (inr ne) (inl e) (inr r) s t =
       let at : count - 1 ≡ length before + n = omega arith in
-      rw (e, r, at, ← fill_more n (217 ∷ []))
+      rw (e, r, at, ← fills_more n (217 ∷ []))
       (ended before h us ps following (fill_bytes n ++ (255 ∷ 217 ∷ [])) _ _ p refl (λ k. (n, 217, [], refl, refl))
       (at_eoi_before_a_frame h (length before) n [] r))
   fill_marker_more following payload n b count p c fol (inr ne) (inr q) r (inl s) t =
@@ -88,7 +85,7 @@ module _ (profile : Profile) (before : List ℕ) (h : HeaderState) (us : List Co
         following = following;
         units = us;
         passed = p;
-        whole = ap (λ x. before ++ x) (sym (fill_more n (b ∷ [])));
+        whole = ap (λ x. before ++ x) (sym (fills_more n (b ∷ [])));
         marker_at = refl;
         known = s;
         follows = fol;
@@ -96,6 +93,6 @@ module _ (profile : Profile) (before : List ℕ) (h : HeaderState) (us : List Co
   fill_marker_more following payload n b count p c fol (inr ne) (inr q) r (inr s) t =
       let at : count - 1 ≡ length before + n = omega arith in
       let f : (b == 217) ≡ false = grind (arith, nat_tests) in
-      rw (not_fill b ne, f, s, at, ← fill_more n (b ∷ []))
+      rw (not_fill b ne, f, s, at, ← fills_more n (b ∷ []))
       (ended before h us ps following (fill_bytes n ++ (255 ∷ b ∷ [])) _ _ p refl (λ k. (n, b, [], refl, fol k))
       (at_unknown_code h (length before) n b [] ne q s))

@@ -29,12 +29,9 @@ use Rattle.jls_copy.specs.declared.scan.Held.TheVariants.{Nothing, One, More}
 use Rattle.jls_copy.specs.declared.scan.ByteClass.TheVariants.{Fill, Mark, Stop, Data}
 use Rattle.jls_copy.specs.declared.scan.OpenScan.{OpenScan}
 use Rattle.jls_copy.proofs.Alike.{same_more}
-use Rattle.jls_copy.proofs.OneMoreByte.{piece_more, each_more}
-use Rattle.jls_copy.proofs.TellsMore.{fill_more, fill_length, fill_marker_more}
+use Rattle.jls_copy.proofs.OneMoreByte.{piece_more, each_more, fills_more}
+use Rattle.jls_copy.proofs.TellsMore.{fill_length, fill_marker_more, fill_snoc}
 use Rattle.jls_marker.specs.declared.profile.Profile.{Profile}
-
-fill_snoc : (n : ℕ) → fill_bytes n ++ 255 ∷ [] ≡ fill_bytes (suc n)
-fill_snoc n = fill_more n [] ∙ append-nil _
 
 -- the class of a byte, with what it says of the byte
 data ClassIs : Held → ℕ → ℕ → Type 0 where
@@ -207,7 +204,7 @@ module _ (profile : Profile) (o : OpenScan) (h : HeaderState) (ps : List FoundPi
       let given : o.last ≡ given_after (intervals o.plan) 0 d.closed = d.given_is in
       let bytes : x ++ b ∷ [] ≡ d.before
       ++ (segment_unit_bytes d.fill d.code d.payload ++ (flat_map closed_bytes (d.closed ++ closing ∷ []) ++ ([] ++ []))) =
-      ap (λ y. y ++ b ∷ []) d.whole ∙ rw hm (simp (append_assoc, append-nil, flat_map-append, ← fill_more m) (rw back refl)) in
+      ap (λ y. y ++ b ∷ []) d.whole ∙ rw hm (simp (append_assoc, append-nil, flat_map-append, ← fills_more m) (rw back refl)) in
       let size : count + 1 ≡ start + length (flat_map closed_bytes (d.closed ++ closing ∷ [])) =
       ap (λ n. n + 1) c ∙ sym (length-append x (b ∷ [])) ∙ ap length bytes ∙ length-append d.before _
       ∙ (omega (

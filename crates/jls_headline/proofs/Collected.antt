@@ -9,6 +9,7 @@ use Rattle.std.proofs.lemmas.Bool.{or_left}
 use Rattle.jls_values.specs.Join.{IsBetween}
 use Rattle.jls_values.specs.OrderedSetLaws.{contains-empty, contains-insert_all}
 use Rattle.jls_values.specs.Shape.{PictureShape}
+use Rattle.jls_values.proofs.Tests.{either}
 use Rattle.jls_partial.specs.Marks.{mark_cmp, marks_of}
 use Rattle.jls_partial.specs.Reading.{Reading, reading_cmp}
 use Rattle.jls_partial.specs.ReadingOrder.{reading_total, reading_exact, marks_total, marks_exact}
@@ -16,7 +17,6 @@ use Rattle.jls_partial.specs.Partial.{PartialPicture, nothing_known, union, with
 use Rattle.jls_partial.specs.PartialLaws.{one_shape}
 use Rattle.jls_partial.specs.Text.{IsTextOf}
 use Rattle.jls_partial.proofs.TextLaws.{one_text}
-use Rattle.jls_partial.proofs.Unions.{either}
 use Rattle.jls_partial.proofs.HeldItems.{item_of_any}
 use Rattle.jls_copy.specs.CopyReads.{CopyReads}
 use Rattle.jls_copy.specs.ReadCopy.{ReadCopy}

@@ -10,6 +10,7 @@ use Rattle.jls_values.specs.OrderedSet as set
 use Rattle.jls_values.specs.OrderedSetLaws.{contains-empty, contains-union, contains-insert_all}
 use Rattle.jls_values.specs.Shape.{PictureShape}
 use Rattle.jls_values.specs.ShapeOf.{size_fault, shape_of}
+use Rattle.jls_values.proofs.Tests.{either}
 use Rattle.jls_partial.specs.declared.line_place.LinePlace.{LinePlace}
 use Rattle.jls_partial.specs.declared.text_fault.TextFault.{TextFault}
 use Rattle.jls_partial.specs.declared.text_fault.TextFault.TheVariants as fault
@@ -28,7 +29,6 @@ use Rattle.jls_partial.specs.TextReading.{unless_bad_shape, shape_or_fault, shap
 use Rattle.jls_partial.specs.TextReading.{reading_fields, is_source_above, source_field, sources_fields, own_sources_fields, kept_fields}
 use Rattle.jls_partial.specs.TextReading.{readings_fields, place_fields, count_field, entry_fields}
 use Rattle.jls_partial.proofs.TextMerges.{text_between}
-use Rattle.jls_partial.proofs.Unions.{either}
 use Rattle.jls_partial.proofs.HeldItems.{any_of_item}
 use Rattle.jls_copy_laws.proofs.Members.{in_rest, none_in, first_or_rest, in_map, of_map, all_from}
 use Rattle.jls_headline.specs.Collected.{HoldsEntry}

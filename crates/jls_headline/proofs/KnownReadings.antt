@@ -8,11 +8,11 @@ use Rattle.std.proofs.lemmas.List.Elements.{Contains-append_left, Contains-appen
 use Rattle.jls_values.specs.OrderedSet as set
 use Rattle.jls_values.specs.OrderedSetLaws.{contains-insert, contains-insert_all, same_set}
 use Rattle.jls_values.specs.Shape.{PictureShape}
+use Rattle.jls_values.proofs.Tests.{either}
 use Rattle.jls_partial.specs.Marks.{mark_cmp}
 use Rattle.jls_partial.specs.Reading.{Reading, reading_cmp, reading_of}
 use Rattle.jls_partial.specs.ReadingOrder.{reading_total, reading_exact, marks_total, marks_exact}
 use Rattle.jls_partial.specs.Partial.{PartialPicture, with_reading, with_source}
-use Rattle.jls_partial.proofs.Unions.{either}
 use Rattle.jls_partial.proofs.HeldItems.{any_of_item, item_of_any}
 use Rattle.jls_copy_laws.specs.Gives.{GivesReading}
 use Rattle.jls_copy_laws.proofs.Members.{in_map, of_map, all_append, only_member}

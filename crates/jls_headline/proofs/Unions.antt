@@ -5,8 +5,8 @@ use Rattle.std.specs.List.{Contains}
 use Rattle.std.proofs.lemmas.List.Elements.{Contains-append_left, Contains-append_right, Contains-append_cases}
 use Rattle.std.proofs.lemmas.Bool.{or_left, or_right}
 use Rattle.jls_values.specs.Join.{IsBetween}
+use Rattle.jls_values.proofs.Tests.{either}
 use Rattle.jls_partial.specs.Partial.{PartialPicture, union}
-use Rattle.jls_partial.proofs.Unions.{either}
 use Rattle.jls_copy_laws.proofs.Members.{is_first, first_or_rest, none_in}
 
 -- copies give items of this kind, and this tells which of them a partial picture holds; a union holds those of both

@@ -2,11 +2,8 @@
 use Rattle.std.proofs.Common.{◌≡◌, ℕ, ◌+◌, ◌<◌, Bool, true, false, ◌||◌, List, [], ◌∷◌, ◌++◌, length, take, drop, get_or, set}
 use Rattle.std.proofs.Common.{refl, sym, ap, ◌∙◌, subst, arith, append_assoc}
 use Rattle.std.proofs.lemmas.List.{drop_more, take_more_set, drop-set-lt, set-get_or}
+use Rattle.jls_values.proofs.Tests.{any_of_three}
 use Rattle.jls_held.specs.Edits.{held_by_either}
-
-or_assoc : (a b c : Bool) → (a || (b || c)) ≡ ((a || b) || c)
-or_assoc true b c = refl
-or_assoc false b c = refl
 
 pub either_none : (ms : List Bool) → held_by_either ms [] ≡ ms
 either_none [] = refl
@@ -18,7 +15,7 @@ either_assoc [] ns os = refl
 either_assoc (m ∷ ms) [] os = refl
 either_assoc (m ∷ ms) (n ∷ ns) [] = refl
 either_assoc (m ∷ ms) (n ∷ ns) (o ∷ os) =
-    ap (λ b. b ∷ held_by_either ms (held_by_either ns os)) (or_assoc m n o) ∙ ap (λ bs. ((m || n) || o) ∷ bs) (either_assoc ms ns os)
+    ap (λ b. b ∷ held_by_either ms (held_by_either ns os)) (any_of_three m n o) ∙ ap (λ bs. ((m || n) || o) ∷ bs) (either_assoc ms ns os)
 
 -- merged marks are as many as before
 pub length-either : (ms ns : List Bool) → length ms ≡ length ns → length (held_by_either ms ns) ≡ length ms

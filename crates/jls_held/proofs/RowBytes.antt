@@ -1,40 +1,25 @@
 -- Which bytes of a piece carry bits of a row: in which byte each row ends, by how many rows stand whole in first bytes.
-use Rattle.std.proofs.Common.{◌≡◌, ℕ, ◌+◌, ◌*◌, ◌<◌, ◌≤◌, zero, suc, Bool, true, false, List, [], ◌∷◌, ◌++◌, length, take, refl, sym, ap, ◌∙◌}
+use Rattle.std.proofs.Common.{◌≡◌, ℕ, ◌+◌, ◌*◌, ◌<◌, ◌≤◌, Bool, true, false, List, [], ◌∷◌, ◌++◌, length, refl, sym, ap, ◌∙◌}
 use Rattle.std.proofs.Common.{subst, arith, inl, inr, append_assoc, length-append}
 use Rattle.std.specs.List.{AllByRecursion}
 use Rattle.std.proofs.lemmas.Bool.{cases_lt, false≢true}
 use Rattle.std.proofs.lemmas.Nat.{mul-le}
 use Rattle.jls_values.specs.Params.{AreCodingParameters}
+use Rattle.jls_values.proofs.Lists.{first_items, longer_begins, same_begin}
 use Rattle.jls_bits.specs.Bits.{bits_read, is_whole}
 use Rattle.jls_interval.specs.Lines.{AreLines}
 use Rattle.jls_interval.proofs.HeadLines.{prefix_lines}
 use Rattle.jls_piece.specs.Lines.{PieceShape, AreOfWholeRows}
 use Rattle.jls_piece.specs.Code.{piece_code}
-use Rattle.jls_piece.specs.Reads.{BeginsWithCode, IsBroken}
 use Rattle.jls_piece.specs.Laws.{IsCutCode, BrokenBeginsWithNone}
-use Rattle.jls_piece.specs.Heads.{BeginsWithFirst, AreWholeLines, IsHead, IsHeadOfPiece}
+use Rattle.jls_piece.specs.Heads.{AreWholeLines, IsHeadOfPiece}
 use Rattle.jls_piece.proofs.PieceCodes.{codes_apart, code_parts}
 use Rattle.jls_held.specs.RowEnds.{HasWholeRows}
-
--- of two beginnings of the same bits, the longer one begins with the other
-shorter_begins : (a c s t : List Bool) → a ++ s ≡ c ++ t → length c ≤ length a → (x : List Bool) × (a ≡ c ++ x)
-shorter_begins a [] s t e l = (a, refl)
-shorter_begins [] (y ∷ c) s t e l = absurd (omega arith)
-shorter_begins (x ∷ a) (y ∷ c) s t e l =
-    let h : x ≡ y = cc in let r = shorter_begins a c s t (cc) (omega arith) in (r.0, (let q = r.1 in cc))
 
 -- bits that are more than none
 some_bits : (xs : List Bool) → 0 < length xs → (x : Bool) × (more : List Bool) × (xs ≡ x ∷ more)
 some_bits [] l = absurd (omega (arith, l))
 some_bits (x ∷ xs) l = (x, xs, refl)
-
--- a list is its first n items, and the others
-first_items : (n : ℕ) (xs : List (List ℕ)) → n ≤ length xs
-    → (prefix : List (List ℕ)) × (back : List (List ℕ)) × (xs ≡ prefix ++ back) × (length prefix ≡ n)
-first_items zero xs h = ([], xs, refl, refl)
-first_items (suc n) [] h = absurd (omega arith)
-first_items (suc n) (x ∷ xs) h =
-    let r = first_items n xs (omega arith) in (x ∷ r.0, r.1, ap (λ z. x ∷ z) r.2, ap suc r.3)
 
 -- A piece begins with the code of some lines. The bits of other bytes and its bits begin the same bits
 module _ (i : PieceShape) (ok : AreCodingParameters i.params) (some : 0 < i.width) (broken : BrokenBeginsWithNone)
@@ -59,7 +44,7 @@ module _ (i : PieceShape) (ok : AreCodingParameters i.params) (some : 0 < i.widt
       let parts = code_parts i xs ys xs_rows in
       let e : bits_read bytes ++ r ≡ piece_code i xs ++ (parts.0 ++ s) =
       meet ∙ ap (λ z. piece_code i z ++ s) lines_are ∙ ap (λ z. z ++ s) parts.1 ∙ append_assoc (piece_code i xs) parts.0 s in
-      shorter_begins (bits_read bytes) (piece_code i xs) r (parts.0 ++ s) e l
+      (let x = longer_begins (bits_read bytes) (piece_code i xs) r (parts.0 ++ s) e l in (x.0, x.1))
 
   -- Rows that stand whole in the bytes have no more bits than these
   pub rows_within : (count k : ℕ) → HasWholeRows i bytes count → 0 < i.components → k ≤ count → 0 < k → (xs ys : List (List ℕ))
@@ -101,20 +86,13 @@ module _ (i : PieceShape) (ok : AreCodingParameters i.params) (some : 0 < i.widt
           let m = mul-le k i.components count i.components at_most (omega arith) in omega (arith, m, xs_count, t.3, head_count)) in
           let c = first_items (length xs) t.0 fewer in
           let split : xs ++ ys ≡ c.0 ++ (c.1 ++ t.1) = sym lines_are ∙ t.2 ∙ ap (λ z. z ++ t.1) c.2 ∙ append_assoc c.0 c.1 t.1 in
-          let one : xs ≡ c.0 = same_begin xs c.0 ys (c.1 ++ t.1) split (sym c.3) in
+          let one : xs ≡ c.0 = (same_begin xs c.0 ys (c.1 ++ t.1) split (sym c.3)).0 in
           let xs_rows : AreOfWholeRows i c.0 = λ h. (k, c.3 ∙ xs_count) in
           let inner = code_parts i c.0 c.1 xs_rows in
           let size = ap length f.given_is ∙ length-append (piece_code i head) f.unread in
           let code = ap (λ z. length (piece_code i z)) (same ∙ c.2) ∙ ap length inner.1 ∙ length-append (piece_code i c.0) inner.0 in
           let own = ap (λ z. length (piece_code i z)) one in
           omega (arith, size, code, own)
-        where
-          same_begin : (us bs cs ds : List (List ℕ)) → us ++ cs ≡ bs ++ ds → length us ≡ length bs → us ≡ bs
-          same_begin [] [] cs ds e l = refl
-          same_begin [] (b ∷ bs) cs ds e l = absurd (omega (arith, l))
-          same_begin (a ∷ us) [] cs ds e l = absurd (omega (arith, l))
-          same_begin (a ∷ us) (b ∷ bs) cs ds e l =
-              let h : a ≡ b = cc in let q = same_begin us bs cs ds (cc) (omega (arith, l)) in cc
 
       by : IsHeadOfPiece i bytes head → length (piece_code i xs) ≤ length (bits_read bytes)
       by (inl (w, inl (cut, a))) = by_cut cut a
@@ -153,7 +131,7 @@ module _ (i : PieceShape) (ok : AreCodingParameters i.params) (some : 0 < i.widt
       is_cut =
           elim (cases_lt (length (bits_read bytes)) (length (piece_code i lines))) [
             | inl l ↦ (
-                let x = shorter_begins (piece_code i lines) (bits_read bytes) s r (sym meet) (omega (arith, l)) in
+                let x = longer_begins (piece_code i lines) (bits_read bytes) s r (sym meet) (omega (arith, l)) in
                 let n = ap length x.1 ∙ length-append (bits_read bytes) x.0 in
                 let y = some_bits x.0 (omega (arith, l, n)) in
                 record {
@@ -165,7 +143,7 @@ module _ (i : PieceShape) (ok : AreCodingParameters i.params) (some : 0 < i.widt
                   code_is = ap (λ z. bits_read bytes ++ z) (sym y.2) ∙ sym x.1;
                 })
             | inr l ↦ (
-                let x = shorter_begins (bits_read bytes) (piece_code i lines) r s meet (omega (arith, l)) in
+                let x = longer_begins (bits_read bytes) (piece_code i lines) r s meet (omega (arith, l)) in
                 absurd (no_code x.0 x.1))
           ]
 

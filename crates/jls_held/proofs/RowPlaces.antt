@@ -1,5 +1,5 @@
 -- The places where the code of rows by sample ends in a piece of a mended file.
-use Rattle.std.proofs.Common.{◌≡◌, ℕ, zero, suc, ◌+◌, ◌*◌, ◌/◌, ◌<◌, ◌≤◌, Bool, true, List, [], ◌∷◌, ◌++◌, length, take, drop, map, get_or, refl, sym, ap}
+use Rattle.std.proofs.Common.{◌≡◌, ℕ, zero, suc, ◌+◌, ◌*◌, ◌/◌, ◌<◌, ◌≤◌, Bool, true, List, [], ◌∷◌, ◌++◌, length, take, drop, map, get_or, sym, ap}
 use Rattle.std.proofs.Common.{◌∙◌, subst, arith, inl, inr, append_assoc, length-append}
 use Rattle.std.specs.Prelude.{if◌then◌else◌}
 use Rattle.std.specs.List.{AllByRecursion}
@@ -9,7 +9,7 @@ use Rattle.std.proofs.lemmas.List.{append-nil, take-append-le, take-append-drop,
 use Rattle.std.proofs.Math.Nat.{mul-div_cancel}
 use Rattle.std.proofs.Math.Seq.{drop-append_seam}
 use Rattle.jls_values.specs.Params.{CodingParameters, AreCodingParameters}
-use Rattle.jls_values.proofs.Lists.{all_at}
+use Rattle.jls_values.proofs.Lists.{all_at, longer_begins}
 use Rattle.jls_bits.specs.Bits.{bits_read, bits_read_after, is_whole}
 use Rattle.jls_bits.specs.Appending.{last_after}
 use Rattle.jls_bits.proofs.Appending.{data_append, whole_prefix}
@@ -28,22 +28,15 @@ use Rattle.jls_copy.specs.Pieces.{FoundPiece, pieces}
 use Rattle.jls_copy.specs.TellingLaws.{StandsAt, PiecesStandAtTheirOffsetsUnder}
 use Rattle.jls_copy.specs.declared.piece_in_hand.PieceInHand.{PieceInHand}
 use Rattle.jls_held.specs.MendedFiles.{MendedFile}
-use Rattle.jls_held.specs.LineCode.{code_length, bits_before}
+use Rattle.jls_held.specs.LineCode.{code_length}
 use Rattle.jls_held.specs.FilePieces.{lines_of, IsPieceOf}
 use Rattle.jls_held.specs.Chains.{EndAround, AreCodeEnds, together, place_of}
-use Rattle.jls_held.specs.RowEnds.{HasWholeRows, HasAtMost, HasMore, EndsInByte, AreRowEnds}
+use Rattle.jls_held.specs.RowEnds.{HasWholeRows, EndsInByte, AreRowEnds}
 use Rattle.jls_held.proofs.LineBytes.{more_bits}
 use Rattle.jls_held.proofs.RowBytes.{rows_within, rows_beyond}
 
 abbrev AreBytes : List ℕ → Type 0
 AreBytes xs = AllByRecursion (λ x. x < 256) xs
-
--- of two beginnings of the same bytes, the longer one begins with the other
-longer_begins : (a c s t : List ℕ) → a ++ s ≡ c ++ t → length c ≤ length a → (x : List ℕ) × (a ≡ c ++ x)
-longer_begins a [] s t e l = (a, refl)
-longer_begins [] (y ∷ c) s t e l = absurd (omega arith)
-longer_begins (x ∷ a) (y ∷ c) s t e l =
-    let h : x ≡ y = cc in let r = longer_begins a c s t (cc) (omega arith) in (r.0, (let q = r.1 in cc))
 
 pub first_bytes : (n : ℕ) (xs : List ℕ) → AreBytes xs → AreBytes (take n xs)
 first_bytes zero xs h = tt

@@ -1,5 +1,5 @@
 -- How many rows stand whole in first bytes of a piece, and in which byte each of them ends.
-use Rattle.std.proofs.Common.{◌≡◌, ℕ, ◌+◌, ◌*◌, ◌-◌, ◌<◌, ◌≤◌, Bool, true, false, List, [], ◌∷◌, ◌++◌, length, take, drop, get_or, refl, sym, ap, ◌∙◌}
+use Rattle.std.proofs.Common.{◌≡◌, ℕ, ◌+◌, ◌*◌, ◌-◌, ◌<◌, ◌≤◌, true, false, List, [], ◌∷◌, ◌++◌, length, take, drop, get_or, refl, sym, ap, ◌∙◌}
 use Rattle.std.proofs.Common.{subst, arith, inl, inr, Option, Some, None, leb, eqb}
 use Rattle.std.specs.Prelude.{IfSome}
 use Rattle.std.specs.Option.{option_map}
@@ -9,7 +9,6 @@ use Rattle.std.proofs.Math.Seq.{take-add}
 use Rattle.jls_bits.specs.Bits.{ends_data, is_whole}
 use Rattle.jls_bits.specs.Appending.{last_after}
 use Rattle.jls_bits.proofs.DataBits.{whole_more, whole_end}
-use Rattle.jls_bits.proofs.Unstuffing.{plain_goes}
 use Rattle.jls_bits.proofs.Appending.{whole_append, last_append}
 use Rattle.jls_pixel.specs.PixelBytes.{PixelBytes, pixels_asked}
 use Rattle.jls_pixel.specs.CutEnds.{CutEndIs}
@@ -134,10 +133,6 @@ pub below_markers : (before x : ℕ) → x < 128 → ends_data before x ≡ fals
 unfolding ends_data
 below_markers before x l =
     let f : leb 128 x ≡ false = lt-leb 128 x l in elim (cases_Bool (eqb before 255)) [ inl e ↦ rw (e, f) refl | inr e ↦ rw e refl ]
-
--- and so is each one that follows another than 0xFF
-pub after_another : (before x : ℕ) → (before ≡ 255 → ⊥) → ends_data before x ≡ false
-after_another before x n = plain_goes before x n
 
 -- Between two places ------------------------------------------------------------------------------------------------
 

@@ -15,8 +15,8 @@ pub record AreHeldBetween (held : List Bool) (offset : ℕ) (start end : BitPlac
   pub filled : (place : ℕ) → start.bytes ≤ place → place < end.bytes → get_or held (offset + place) false ≡ true
   pub last : 0 < end.bits → get_or held (offset + end.bytes) false ≡ true
 
--- So many first bits of a piece end here: each byte that carries one of them stands before this place, or has some bits before it. Each byte
--- that carries a bit behind them doesn't stand before this place
+-- So many first bits of a piece end here: each byte that carries one of them stands before this place, or has some bits before it.
+-- Each byte that carries a bit behind them doesn't stand before this place
 pub record EndAround (piece : List ℕ) (size : ℕ) (place : BitPlace) : Type 0 where
   pub carried : (k : ℕ) → k < length piece → bits_before piece k < size → (k ≤ place.bytes) × (k ≡ place.bytes → 0 < place.bits)
   pub behind : (k : ℕ) → k < length piece → size < bits_before piece (k + 1) → place.bytes ≤ k

@@ -4,8 +4,8 @@ use Rattle.jls_piece.specs.Lines.{PieceShape}
 use Rattle.jls_piece.specs.Reads.{BeginsWithCode, IsBroken}
 use Rattle.jls_piece.specs.Heads.{IsHeadOfPiece}
 
--- So many rows of a piece stand whole in these bytes. It is all rows, if the bytes begin with the code of such. Else the bytes are broken, and
--- it is the rows of their head
+-- So many rows of a piece stand whole in these bytes. It is all rows, if the bytes begin with the code of such. Else the bytes are
+-- broken, and it is the rows of their head
 abbrev pub HasWholeRows : PieceShape → List ℕ → ℕ → Type 0
 HasWholeRows i bytes count =
     ((lines : List (List ℕ)) × (unread : List Bool) × BeginsWithCode i bytes lines unread × (count * i.components ≡ i.line_count))

@@ -21,7 +21,7 @@ use Rattle.jls_interval.proofs.FoldedEvents.{cell_used, cell_unused, run_cell_mo
 use Rattle.jls_interval.proofs.FoldedEvents.{index_other}
 
 -- the other variables leave a cell as it was
-cell_kept : (cells cells' : Variables) → cells'.regular ≡ cells.regular → cells'.parameters ≡ cells.parameters → (q : ℕ)
+pub cell_kept : (cells cells' : Variables) → cells'.regular ≡ cells.regular → cells'.parameters ≡ cells.parameters → (q : ℕ)
     → cell_at cells' q ≡ cell_at cells q
 unfolding cell_at
 cell_kept cells cells' a b q = ap (λ z. get_or z q (initial_cell cells'.parameters)) a ∙ ap (λ z. get_or cells.regular q (initial_cell z)) b

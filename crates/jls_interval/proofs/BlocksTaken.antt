@@ -35,7 +35,7 @@ ones_push (suc n) s = let e : suc n + 1 ≡ suc (n + 1) = omega arith in
     ap (λ z. true ∷ z) (ones_push n s) ∙ ap (λ z. replicate z true ++ s) (sym e)
 
 -- ones in two parts
-ones_add : (m n : ℕ) (s : List Bool) → replicate (m + n) true ++ s ≡ replicate m true ++ (replicate n true ++ s)
+pub ones_add : (m n : ℕ) (s : List Bool) → replicate (m + n) true ++ s ≡ replicate m true ++ (replicate n true ++ s)
 ones_add zero n s = let e : 0 + n ≡ n = omega arith in ap (λ z. replicate z true ++ s) e
 ones_add (suc m) n s = let e : suc m + n ≡ suc (m + n) = omega arith in
     ap (λ z. replicate z true ++ s) e ∙ ap (λ z. true ∷ z) (ones_add m n s)

@@ -10,7 +10,7 @@ use Rattle.jls_interval.specs.Code.{event_bits, bits_of_events, code}
 use Rattle.jls_interval.specs.Stepwise.{Leads, bits_of_steps, IsEnd, IsKept}
 use Rattle.jls_interval.specs.Growth.{added, Position, HasSamples, here, grown, moved, interval_steps, start, finish}
 use Rattle.jls_interval.specs.Lines.{AreLines}
-use Rattle.jls_interval.proofs.StepwiseCodes.{one_code}
+use Rattle.jls_interval.proofs.StepwiseCodes.{one_code, one_place}
 use Rattle.jls_interval.proofs.GrownLines.{added_small, all_append, Small}
 use Rattle.jls_interval.proofs.LinesGrow.{lines_grow}
 use Rattle.jls_interval.proofs.EventsApart.{events_apart, small_back, small_get}
@@ -71,14 +71,9 @@ codes_apart p w c n ok some xs ys s t a b e =
     (finished p w c n ys b.count_is) (ap (λ z. z ++ s) (sym (code_is p w c n xs)) ∙ e ∙ ap (λ z. z ++ t) (code_is p w c n ys)) in
     (same_lines r.0, r.1)
   where
-    -- the events lead to one place
-    one_place : (es : List Event) (q z y : Position) → Leads (interval_steps p w c n) q es z → Leads (interval_steps p w c n) q es y → z ≡ y
-    one_place [] q z y l m = sym l ∙ m
-    one_place (e ∷ es) q z y l m = one_place es (moved w c q e) z y l.1 m.1
-
     same_lines : events w c xs ≡ events w c ys → xs ≡ ys
     same_lines h =
         ap (λ (z : Position). z.lines)
-        (one_place (events w c ys) start (finish w c xs) (finish w c ys)
+        (one_place (interval_steps p w c n) (events w c ys) start (finish w c xs) (finish w c ys)
         (subst (λ z. Leads (interval_steps p w c n) start z (finish w c xs)) h (lines_grow p w c n some xs a))
         (lines_grow p w c n some ys b))

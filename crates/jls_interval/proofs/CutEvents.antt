@@ -11,6 +11,7 @@ use Rattle.jls_interval.specs.Lines.{AreLines}
 use Rattle.jls_interval.specs.Runs.{blocks, run_order, run_index_before}
 use Rattle.jls_interval.specs.Cells.{is_same, run_cell_before, interruption_error}
 use Rattle.jls_values.specs.Params.{qbpp, limit}
+use Rattle.jls_values.proofs.Lists.{not_empty}
 use Rattle.jls_context.specs.Interruption.{run_k, interruption_mapped}
 use Rattle.jls_bits.specs.Bits.{bits}
 use Rattle.jls_bits.specs.Golomb.{golomb}
@@ -111,16 +112,12 @@ module _ (p : CodingParameters) (w c n : ℕ) (some : 0 < w) where
 -- Every event has a bit ----------------------------------------------------------------
 
 -- no Golomb code is empty
-golomb_some : (k g q m : ℕ) → golomb k g q m ≡ [] → ⊥
+pub golomb_some : (k g q m : ℕ) → golomb k g q m ≡ [] → ⊥
 golomb_some k g q m e =
     elim (cases_Bool (ltb (m / 2 ^ k) (g - q - 1))) [
-      | inl h ↦ not_none (replicate (m / 2 ^ k) false) true (bits k m ++ []) (sym (golomb_short k g q m [] h) ∙ ap (λ z. z ++ []) e)
-      | inr h ↦ not_none (replicate (g - q - 1) false) true (bits q (m - 1) ++ []) (sym (golomb_long k g q m [] h) ∙ ap (λ z. z ++ []) e)
+      | inl h ↦ not_empty (replicate (m / 2 ^ k) false) true (bits k m ++ []) (sym (golomb_short k g q m [] h) ∙ ap (λ z. z ++ []) e)
+      | inr h ↦ not_empty (replicate (g - q - 1) false) true (bits q (m - 1) ++ []) (sym (golomb_long k g q m [] h) ∙ ap (λ z. z ++ []) e)
     ]
-  where
-    not_none : (xs : List Bool) (y : Bool) (ys : List Bool) → xs ++ y ∷ ys ≡ [] → ⊥
-    not_none [] y ys h = cc
-    not_none (x ∷ xs) y ys h = cc
 
 -- an event that can come next has a bit
 pub event_some : (p : CodingParameters) (w c n : ℕ) (z : Position) (e : Event) → length z.line < w → IsNext p w c n z e

@@ -2,6 +2,7 @@
 use Rattle.std.proofs.Common.{◌≡◌, ℕ, ◌%◌, ◌<◌, Bool, List, [], ◌∷◌, ◌++◌, length, get_or, refl, sym, ap, ◌∙◌, subst, inr, append_assoc}
 use Rattle.std.proofs.lemmas.List.{append-nil}
 use Rattle.jls_values.specs.Params.{CodingParameters, AreCodingParameters}
+use Rattle.jls_values.proofs.Lists.{not_empty}
 use Rattle.jls_context.specs.Variables.{Variables}
 use Rattle.jls_interval.specs.Lines.{interval_shape}
 use Rattle.jls_interval.specs.Events.{Event, above}
@@ -38,16 +39,12 @@ module _ (p : CodingParameters) (ok : AreCodingParameters p) (w c n : ℕ) (some
   pub over_head : (lines : List (List ℕ)) (extra : ℕ) → IsComplete p w c n given lines extra → IsHead (interval_shape p w c n) given []
   over_head lines extra o = inr (λ cut. not_cut cut, refl)
     where
-      nothing_is : (xs : List Bool) (y : Bool) (ys : List Bool) → xs ++ y ∷ ys ≡ [] → ⊥
-      nothing_is [] y ys h = cc
-      nothing_is (x ∷ xs) y ys h = cc
-
       not_cut : IsCutCode (interval_shape p w c n) given → ⊥
       not_cut cut =
           let more = cut.missing ∷ cut.more_missing in
           let e : code p w c lines ++ (o.unread ++ more) ≡ code p w c cut.lines ++ [] = sym (append_assoc (code p w c lines) o.unread more)
           ∙ ap (λ z. z ++ more) (sym o.begins) ∙ cut.code_is ∙ sym (append-nil (code p w c cut.lines)) in
-          nothing_is o.unread cut.missing cut.more_missing
+          not_empty o.unread cut.missing cut.more_missing
           (codes_apart p w c n ok some lines cut.lines (o.unread ++ more) [] o.are_lines cut.are_lines e).1
 
   module _ (lines : List (List ℕ)) (line : List ℕ) (cells : Variables) (run_indices : List ℕ) (open_event : OpenEvent)

@@ -1,15 +1,14 @@
 -- What a decoder that goes event by event keeps, and what follows at its ends.
 use Rattle.std.proofs.Common.{◌≡◌, ℕ, ◌%◌, ◌<◌, ◌≤◌, Bool, List, [], ◌∷◌, ◌++◌, length, sym, ap, ◌∙◌, subst, arith, inl, inr, append_assoc}
 use Rattle.std.specs.List.{AllByRecursion}
-use Rattle.std.proofs.lemmas.List.{append-nil}
 use Rattle.std.proofs.lemmas.Bool.{cases_lt}
 use Rattle.jls_values.specs.Params.{CodingParameters}
 use Rattle.jls_interval.specs.Events.{Event, above, events, events_after}
 use Rattle.jls_interval.specs.Code.{event_bits, code}
 use Rattle.jls_interval.specs.Lines.{IsLine, AreLines}
-use Rattle.jls_interval.specs.Stepwise.{StepwiseCode, Leads, bits_of_steps, IsEnd}
+use Rattle.jls_interval.specs.Stepwise.{Leads, bits_of_steps, IsEnd}
 use Rattle.jls_interval.specs.Growth.{added, Position, HasSamples, here, IsNext, moved, interval_steps, start}
-use Rattle.jls_interval.proofs.StepwiseCodes.{leads_more}
+use Rattle.jls_interval.proofs.StepwiseCodes.{leads_more, bits_more}
 use Rattle.jls_interval.proofs.GrownLines.{ends, Small, added_fits, grown_full, grown_part}
 use Rattle.jls_interval.proofs.CodesApart.{kept, code_is, grown_earlier}
 
@@ -19,13 +18,6 @@ pub record Decoded (p : CodingParameters) (w c n : ℕ) (given : List Bool) (z :
   pub bits_are : given ≡ bits_of_steps (interval_steps p w c n) start z.earlier ++ left
   pub samples : HasSamples p z
   pub unfinished : length z.line < w
-
--- the bits of steps and one more are those of the steps, and then of that one
-bits_more : (m : StepwiseCode) (s z : m.State) (es : List m.Event) (e : m.Event) → Leads m s es z
-    → bits_of_steps m s (es ++ e ∷ []) ≡ bits_of_steps m s es ++ m.step_bits z e
-bits_more m s z [] e l = append-nil (m.step_bits s e) ∙ ap (λ v. m.step_bits v e) l
-bits_more m s z (f ∷ es) e l = ap (λ v. m.step_bits s f ++ v) (bits_more m (m.after s f) z es e l.1)
-    ∙ sym (append_assoc (m.step_bits s f) (bits_of_steps m (m.after s f) es) (m.step_bits z e))
 
 module _ (p : CodingParameters) (w c n : ℕ) (some : 0 < w) where
   -- after an event that can come next, the line in work has room again, or is the next one

@@ -1,5 +1,5 @@
 -- What a decoder holds at the end of its bytes.
-use Rattle.std.proofs.Common.{◌≡◌, ℕ, ◌*◌, ◌^◌, ◌<◌, ◌≤◌, Bool, true, false, List, [], ◌∷◌, ◌++◌, length, get_or, suc, Vec, Global}
+use Rattle.std.proofs.Common.{◌≡◌, ℕ, ◌*◌, ◌^◌, ◌<◌, ◌≤◌, Bool, true, false, List, [], ◌∷◌, ◌++◌, length, Vec, Global}
 use Rattle.std.proofs.Common.{Result, Ok, Err, sym, ap, ◌∙◌, subst, arith, inl, inr, append_assoc, length-append}
 use Rattle.std.specs.Prelude.{not, Option, Some, None, MatchOption, IfSome, MatchResult}
 use Rattle.std.proofs.lemmas.List.{append-nil}
@@ -29,11 +29,6 @@ pub goes_on : (bytes more : List ℕ) (ended : Bool) → (ended ≡ true → is_
     → ended ≡ false
 goes_on bytes more ended h w =
     elim (cases_Bool ended) [ inl t ↦ (let a : true ≡ false = sym (whole_prefix 0 bytes more w).0 ∙ h t in cc) | inr o ↦ o ]
-
--- elements of a type of bytes
-pub all_bytes : (xs : List ℕ) → ((i : ℕ) → get_or xs i 0 < 256) → AllByRecursion (λ x. x < 256) xs
-all_bytes [] h = tt
-all_bytes (x ∷ xs) h = (h 0, all_bytes xs (λ i. h (suc i)))
 
 -- a byte has at most eight data bits
 pub data_bits_at_most : (before : ℕ) (xs : List ℕ) → length (bits_read_after before xs) ≤ 8 * length xs

@@ -7,6 +7,7 @@ use Rattle.std.proofs.lemmas.Bool.{cases_lt}
 use Rattle.std.proofs.lemmas.Nat.{mul-le}
 use Rattle.std.proofs.Math.Nat.{suc-mul}
 use Rattle.jls_values.specs.Params.{CodingParameters, AreCodingParameters}
+use Rattle.jls_values.proofs.Lists.{all_prefix, first_items, not_empty}
 use Rattle.jls_interval.specs.Lines.{IsLine, AreLines, interval_shape}
 use Rattle.jls_interval.specs.Events.{Event, above, line_events, events, events_after}
 use Rattle.jls_interval.specs.Code.{event_bits, bits_of_events, code}
@@ -16,17 +17,12 @@ use Rattle.jls_bits.specs.Bits.{bits_read}
 use Rattle.jls_interval.specs.Reads.{Reads}
 use Rattle.jls_interval.specs.Laws.{IsCutCode, IsCutEvent}
 use Rattle.jls_interval.specs.Heads.{BeginsWithFirst, IsHead, IsHeadOfPiece}
-use Rattle.jls_interval.proofs.StepwiseCodes.{one_begins}
+use Rattle.jls_interval.proofs.StepwiseCodes.{one_begins, leads_apart, leads_join, one_place, bits_join}
 use Rattle.jls_interval.proofs.GrownLines.{some_fits, added_fits, grown_full, grown_part}
 use Rattle.jls_interval.proofs.LinesGrow.{lines_grow}
 use Rattle.jls_interval.proofs.CodesApart.{code_is, codes_apart}
 use Rattle.jls_interval.proofs.EncodedEvents.{bits_append}
 use Rattle.jls_interval.proofs.GrowthEnds.{growth_ends}
-
--- the first of some lines are lines
-pub all_prefix : (P : List ℕ → Type 0) (xs ys : List (List ℕ)) → AllByRecursion P (xs ++ ys) → AllByRecursion P xs
-all_prefix P [] ys h = tt
-all_prefix P (x ∷ xs) ys h = (h.0, all_prefix P xs ys h.1)
 
 pub prefix_lines : (p : CodingParameters) (w n : ℕ) (lines xs ys : List (List ℕ)) → AreLines p w n lines → lines ≡ xs ++ ys
     → AreLines p w (length xs) xs
@@ -53,34 +49,6 @@ code_parts p w c xs ys =
     (bits_of_events p (events w c xs) later, ap (bits_of_events p []) (events_append w c [] xs ys) ∙ bits_append p [] (events w c xs) later)
 
 -- Steps one after another -------------------------------------------------------------------------
-
--- steps that lead on lead over each place between
-leads_apart : (m : StepwiseCode) (a b : List m.Event) (s z : m.State) → Leads m s (a ++ b) z
-    → (y : m.State) × (Leads m s a y × Leads m y b z)
-leads_apart m [] b s z l = (s, (refl, l))
-leads_apart m (e ∷ a) b s z l =
-    let r = leads_apart m a b (m.after s e) z l.1 in (r.0, ((l.0, r.1.0), r.1.1))
-
-leads_join : (m : StepwiseCode) (a b : List m.Event) (s y z : m.State) → Leads m s a y → Leads m y b z → Leads m s (a ++ b) z
-leads_join m [] b s y z l k = subst (λ v. Leads m v b z) (sym l) k
-leads_join m (e ∷ a) b s y z l k = (l.0, leads_join m a b (m.after s e) y z l.1 k)
-
-one_place : (m : StepwiseCode) (a : List m.Event) (s y z : m.State) → Leads m s a y → Leads m s a z → y ≡ z
-one_place m [] s y z l k = sym l ∙ k
-one_place m (e ∷ a) s y z l k = one_place m a (m.after s e) y z l.1 k.1
-
--- the bits of steps in two parts
-bits_join : (m : StepwiseCode) (a b : List m.Event) (s y : m.State) → Leads m s a y
-    → bits_of_steps m s (a ++ b) ≡ bits_of_steps m s a ++ bits_of_steps m y b
-bits_join m [] b s y l = ap (λ v. bits_of_steps m v b) l
-bits_join m (e ∷ a) b s y l =
-    ap (λ v. m.step_bits s e ++ v) (bits_join m a b (m.after s e) y l.1)
-    ∙ sym (append_assoc (m.step_bits s e) (bits_of_steps m (m.after s e) a) (bits_of_steps m y b))
-
--- a list with an item is not empty
-nothing_is : (xs : List Bool) (y : Bool) (ys : List Bool) → xs ++ y ∷ ys ≡ [] → ⊥
-nothing_is [] y ys h = cc
-nothing_is (x ∷ xs) y ys h = cc
 
 -- Lines as they grow --------------------------------------------------------------------------------
 
@@ -303,13 +271,6 @@ module _ (p : CodingParameters) (w c : ℕ) (some : 0 < w) where
 
 -- One head ------------------------------------------------------------------------------------------
 
--- a list is its first n items, and the others
-take_drop : (n : ℕ) (xs : List (List ℕ)) → n ≤ length xs
-    → (prefix : List (List ℕ)) × (back : List (List ℕ)) × (xs ≡ prefix ++ back) × (length prefix ≡ n)
-take_drop zero xs h = ([], xs, refl, refl)
-take_drop (suc n) [] h = absurd (omega arith)
-take_drop (suc n) (x ∷ xs) h = let r = take_drop n xs (omega arith) in (x ∷ r.0, r.1, ap (λ z. x ∷ z) r.2, ap suc r.3)
-
 module _ (p : CodingParameters) (w c n : ℕ) (ok : AreCodingParameters p) (some : 0 < w) (given : List Bool) where
   -- the lines that stand whole are the first of all lines in whose code the bits are cut
   first_of_others : (a b : IsCutCode (interval_shape p w c n) given) (xs : List (List ℕ))
@@ -318,7 +279,7 @@ module _ (p : CodingParameters) (w c n : ℕ) (ok : AreCodingParameters p) (some
   first_of_others a b xs f =
       let l = length-append xs f.others in let l1 = ap length f.lines_are in let l2 = b.are_lines.count_is in
       let l3 = a.are_lines.count_is in
-      let t = take_drop (length xs) a.lines (omega (arith, l, l1, l2, l3)) in
+      let t = first_items (length xs) a.lines (omega (arith, l, l1, l2, l3)) in
       let more = a.missing ∷ a.more_missing in
       let parts = code_parts p w c t.0 t.1 in
       let bits_are : code p w c xs ++ (f.unread ++ more) ≡ code p w c t.0 ++ parts.0 = sym (append_assoc (code p w c xs) f.unread more)
@@ -348,6 +309,6 @@ read_has_none p w c n ok some piece xs head r (inl (whole, inl (cut, f))) =
     let e : code p w c xs ++ (r.unread ++ more) ≡ code p w c cut.lines ++ [] = sym (append_assoc (code p w c xs) r.unread more)
     ∙ ap (λ v. v ++ more) (sym r.begins.data_bits.read) ∙ cut.code_is ∙ sym (append-nil (code p w c cut.lines)) in
     let same = codes_apart p w c n ok some xs cut.lines (r.unread ++ more) [] r.begins.are_lines cut.are_lines e in
-    absurd (nothing_is r.unread cut.missing cut.more_missing same.1)
+    absurd (not_empty r.unread cut.missing cut.more_missing same.1)
 read_has_none p w c n ok some piece xs head r (inl (whole, inr (none, e))) = e
 read_has_none p w c n ok some piece xs head r (inr (none, e)) = e

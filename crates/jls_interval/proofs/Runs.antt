@@ -12,7 +12,8 @@ use Rattle.jls_interval.specs.Runs.{run_order, run_index_raised, block_columns, 
 use Rattle.jls_interval.specs.Runs.{run_index_before}
 use Rattle.jls_interval.specs.Code.{run_to_end_bits, interrupted_run_bits}
 use Rattle.jls_bits.proofs.NumberBits.{bits_same}
-use Rattle.jls_interval.proofs.LeastPassing.{least_passes, least_before}
+use Rattle.jls_context.proofs.GolombLaws.{least_from-before}
+use Rattle.jls_context.proofs.Sizes.{least_from-passes}
 
 -- How many full blocks there are -----------------------------------------------
 
@@ -50,7 +51,7 @@ columns_top r n =
 -- as many full blocks as fit, and one more does not
 pub full_fit : (r n : ℕ) → (block_columns r (full_blocks r n) ≤ n) × (n < block_columns r (suc (full_blocks r n)))
 unfolding full_blocks block_columns
-full_fit r n = (low (full_blocks r n) refl, ltb-true _ _ (least_passes passes fuel 0 (top)))
+full_fit r n = (low (full_blocks r n) refl, ltb-true _ _ (least_from-passes passes fuel 0 (top)))
   where
     passes : ℕ → Bool
     passes m = ltb n (block_columns r (suc m))
@@ -65,7 +66,7 @@ full_fit r n = (low (full_blocks r n) refl, ltb-true _ _ (least_passes passes fu
     low zero e = omega arith
     low (suc m) e =
         let b : m < least_from passes fuel 0 = omega (arith, e) in
-        ltb-false n (block_columns r (suc m)) (least_before passes fuel 0 m (omega arith) b)
+        ltb-false n (block_columns r (suc m)) (least_from-before passes fuel 0 m (omega arith) b)
 
 -- no other number of blocks fits so
 pub full_only : (r n m : ℕ) → block_columns r m ≤ n → n < block_columns r (suc m) → full_blocks r n ≡ m

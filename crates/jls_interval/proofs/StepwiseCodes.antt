@@ -1,6 +1,7 @@
 -- The laws of codes that are read step by step.
 use Rattle.std.proofs.Common.{◌≡◌, Bool, List, [], ◌∷◌, ◌++◌, refl, sym, ap, ◌∙◌, subst, append_assoc, ◌⊎◌, inl, inr}
-use Rattle.std.proofs.lemmas.List.{append_cancel_left}
+use Rattle.std.proofs.lemmas.List.{append-nil, append_cancel_left}
+use Rattle.jls_values.proofs.Lists.{not_empty}
 use Rattle.jls_interval.specs.Stepwise.{StepwiseCode, Leads, bits_of_steps, IsEnd, IsPrefixFree, IsKept}
 
 -- of two prefixes of one list, one begins the other
@@ -72,3 +73,85 @@ module _ (m : StepwiseCode) (free : IsPrefixFree m) (kept : IsKept m) where
       ++ (bits_of_steps m (m.after s f) fs ++ rest)) h flat in
       refused (m.after s f) z y es fs left rest (kept s f ok k.0) (subst (λ v. Leads m (m.after s v) es z) h l.1) k.1 end x a stuck
       (append_cancel_left (m.step_bits s f) (bits_of_steps m (m.after s f) es ++ left) (bits_of_steps m (m.after s f) fs ++ rest) onto)
+
+-- Steps one after another -------------------------------------------------------------------------
+
+-- the first of some events, and those after them
+pub leads_apart : (m : StepwiseCode) (a b : List m.Event) (s z : m.State) → Leads m s (a ++ b) z
+    → (y : m.State) × (Leads m s a y × Leads m y b z)
+leads_apart m [] b s z l = (s, (refl, l))
+leads_apart m (e ∷ a) b s z l =
+    let r = leads_apart m a b (m.after s e) z l.1 in (r.0, ((l.0, r.1.0), r.1.1))
+
+pub leads_join : (m : StepwiseCode) (a b : List m.Event) (s y z : m.State) → Leads m s a y → Leads m y b z → Leads m s (a ++ b) z
+leads_join m [] b s y z l k = subst (λ v. Leads m v b z) (sym l) k
+leads_join m (e ∷ a) b s y z l k = (l.0, leads_join m a b (m.after s e) y z l.1 k)
+
+-- events lead to one state
+pub one_place : (m : StepwiseCode) (a : List m.Event) (s y z : m.State) → Leads m s a y → Leads m s a z → y ≡ z
+one_place m [] s y z l k = sym l ∙ k
+one_place m (e ∷ a) s y z l k = one_place m a (m.after s e) y z l.1 k.1
+
+-- the bits of steps in two parts
+pub bits_join : (m : StepwiseCode) (a b : List m.Event) (s y : m.State) → Leads m s a y
+    → bits_of_steps m s (a ++ b) ≡ bits_of_steps m s a ++ bits_of_steps m y b
+bits_join m [] b s y l = ap (λ v. bits_of_steps m v b) l
+bits_join m (e ∷ a) b s y l =
+    ap (λ v. m.step_bits s e ++ v) (bits_join m a b (m.after s e) y l.1)
+    ∙ sym (append_assoc (m.step_bits s e) (bits_of_steps m (m.after s e) a) (bits_of_steps m y b))
+
+-- the bits of steps and one more are those of the steps, and then of that one
+pub bits_more : (m : StepwiseCode) (s z : m.State) (es : List m.Event) (e : m.Event) → Leads m s es z
+    → bits_of_steps m s (es ++ e ∷ []) ≡ bits_of_steps m s es ++ m.step_bits z e
+bits_more m s z [] e l = append-nil (m.step_bits s e) ∙ ap (λ v. m.step_bits v e) l
+bits_more m s z (f ∷ es) e l = ap (λ v. m.step_bits s f ++ v) (bits_more m (m.after s f) z es e l.1)
+    ∙ sym (append_assoc (m.step_bits s f) (bits_of_steps m (m.after s f) es) (m.step_bits z e))
+
+-- whole first events, and a proper prefix of the bits of the one after them
+pub record CutSteps (m : StepwiseCode) (s : m.State) (given : List Bool) : Type 0 where
+  pub whole : List m.Event
+  pub state : m.State
+  pub leads : Leads m s whole state
+  pub cut : m.Event
+  pub next : m.Next state cut
+  pub begun : List Bool
+  pub given_is : given ≡ bits_of_steps m s whole ++ begun
+  pub missing : Bool
+  pub more_missing : List Bool
+  pub bits_are : m.step_bits state cut ≡ begun ++ missing ∷ more_missing
+
+-- a proper prefix of the bits of some events cuts one of them
+pub cut_steps : (m : StepwiseCode) (s y : m.State) (fs : List m.Event) (given : List Bool) (b : Bool) (more : List Bool) → Leads m s fs y
+    → given ++ b ∷ more ≡ bits_of_steps m s fs → CutSteps m s given
+cut_steps m s y [] given b more l e = absurd (not_empty given b more e)
+cut_steps m s y (f ∷ fs) given b more l e =
+    elim (one_begins given (b ∷ more) (m.step_bits s f) (bits_of_steps m (m.after s f) fs) e) [
+      | inl q ↦ (let r = cut_steps m (m.after s f) y fs q.0 b more l.1 q.2 in
+          record {
+            whole = f ∷ r.whole;
+            state = r.state;
+            leads = (l.0, r.leads);
+            cut = r.cut;
+            next = r.next;
+            begun = r.begun;
+            given_is = q.1
+                ∙ ap (λ v. m.step_bits s f ++ v) r.given_is
+                ∙ sym (append_assoc (m.step_bits s f) (bits_of_steps m (m.after s f) r.whole) r.begun);
+            missing = r.missing;
+            more_missing = r.more_missing;
+            bits_are = r.bits_are;
+          })
+      | inr q ↦
+          record {
+            whole = [];
+            state = s;
+            leads = refl;
+            cut = f;
+            next = l.0;
+            begun = given;
+            given_is = refl;
+            missing = q.1;
+            more_missing = q.0;
+            bits_are = q.2;
+          }
+    ]

@@ -15,6 +15,7 @@ use Rattle.std.specs.Map.{lookup}
 use Rattle.std.proofs.lemmas.List.Concat.{flat_map-cons}
 use Rattle.std.proofs.lemmas.List.Folds.{list_any-append}
 use Rattle.jls_values.specs.Shape.{PictureShape}
+use Rattle.jls_values.proofs.Tests.{with_either}
 use Rattle.jls_partial.specs.declared.line_place.LinePlace.{LinePlace}
 use Rattle.jls_partial.specs.Entries.{BareEntry, at_place, readings_of_entries}
 use Rattle.jls_partial.specs.Held.{IsEntry, AreEntries}
@@ -43,11 +44,7 @@ any-at_place r p [] = none (eq_by_cmp place_cmp (place_of r) p)
     none false = refl
 any-at_place r p (x ∷ xs) =
     (λ i. eq_reading r p x i || any-at_place r p xs i)
-    ∙ both (eq_by_cmp place_cmp (place_of r) p) (eq_by_cmp S r.samples x) (list_any (eq_by_cmp S r.samples) xs)
-  where
-    both : (b c d : Bool) → ((b && c) || (b && d)) ≡ (b && (c || d))
-    both true c d = refl
-    both false c d = refl
+    ∙ with_either (eq_by_cmp place_cmp (place_of r) p) (eq_by_cmp S r.samples x) (list_any (eq_by_cmp S r.samples) xs)
 
 pub none_kept : {X : Type 0} (q p : LinePlace) (es : List (LinePlace × X)) → is_at (place_cmp q) p ≡ true
     → AllByRecursion (λ q. place_cmp p q ≡ Less) (map (λ e. e.0) es) → lookup (is_at (place_cmp q)) es ≡ None

@@ -1,28 +1,22 @@
 -- The test of a list of items of an order, and of readings, tells its members.
-use Rattle.std.proofs.Common.{◌≡◌, true, ◌||◌, List, [], ◌∷◌, refl, sym, ap, subst, inl, inr}
+use Rattle.std.proofs.Common.{◌≡◌, true, List, [], ◌∷◌, sym, ap, subst, inl, inr}
 use Rattle.std.specs.List.{list_any, Contains}
 use Rattle.std.specs.declared.cmp.Ordering.{Ordering}
-use Rattle.std.specs.declared.cmp.Ordering.TheVariants.{Less, Equal, Greater}
 use Rattle.std.specs.Ordering.{eq_by_cmp, is_eq}
 use Rattle.std.specs.Cmp.{IsTotalOrder}
 use Rattle.std.proofs.lemmas.Bool.{or_left, or_right}
 use Rattle.std.proofs.lemmas.Cmp.{tied_itself}
 use Rattle.std.proofs.lemmas.Map.Lookups.{CmpEqualImpliesEq}
 use Rattle.jls_values.proofs.Lists.{is_first, in_rest, none_in, first_or_rest}
+use Rattle.jls_values.proofs.Tests.{tied, either}
 use Rattle.jls_partial.specs.Reading.{Reading, reading_cmp}
 use Rattle.jls_partial.specs.ReadingOrder.{reading_total, reading_exact}
-use Rattle.jls_partial.proofs.Unions.{either}
 
 -- the test of a list tells its members
 module _ {K : Type 0} {R : K → K → Ordering} (total : IsTotalOrder R) (exact : CmpEqualImpliesEq R) where
-  -- two items that compare as equal are one
+  -- two items that compare as tied are one
   one_item : (x y : K) → eq_by_cmp R x y ≡ true → x ≡ y
-  one_item x y e = exact x y (equal (R x y) e)
-    where
-      equal : (o : Ordering) → is_eq o ≡ true → o ≡ Equal
-      equal Less e = absurd cc
-      equal Equal e = refl
-      equal Greater e = absurd cc
+  one_item x y e = exact x y (tied (R x y) e)
 
   -- a member of a list is one by the test
   pub any_of_item : (ks : List K) (k : K) → Contains ks k → list_any (eq_by_cmp R k) ks ≡ true

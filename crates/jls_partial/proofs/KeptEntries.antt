@@ -13,6 +13,7 @@ use Rattle.std.proofs.lemmas.List.Folds.{list_any-append}
 use Rattle.jls_values.specs.OrderedSet as set
 use Rattle.jls_values.specs.OrderedSetLaws.{same_set, contains-insert_all, contains-from_list, contains-empty, or_false}
 use Rattle.jls_values.specs.Shape.{PictureShape}
+use Rattle.jls_values.proofs.Tests.{implied}
 use Rattle.jls_partial.specs.declared.line_place.LinePlace.{LinePlace}
 use Rattle.jls_partial.specs.Entries.{Entry, BareEntry, bare, at_place, kept_at_place, readings_of_entries, kept_readings, partial_of}
 use Rattle.jls_partial.specs.Held.{AreEntries}
@@ -218,11 +219,6 @@ partial_again p held =
           same_set marks_total marks_exact (partial_of p.shape (entries p)).marks p.marks (λ m. marked m.0 m.1) i;
     }
   where
-    implied : (a b : Bool) → (b ≡ true → a ≡ true) → (a && b) ≡ b
-    implied true b f = refl
-    implied false true f = f refl
-    implied false false f = refl
-
     is_held : (r : Reading) → list_any (eq_by_cmp reading_cmp r) (readings_of_entries (bare_entries p)) ≡ set.contains p.readings r
     is_held r = sym (contains-from_list reading_total (readings_of_entries (bare_entries p)) r)
         ∙ ap (λ (s : set.OrderedSet reading_cmp). set.contains s r) (set_again p)

@@ -9,6 +9,7 @@ use Rattle.std.proofs.lemmas.Cmp.{nat_cmp_total}
 use Rattle.jls_values.specs.OrderedSet as sets
 use Rattle.jls_values.specs.OrderedSetLaws.{same_set, contains-insert_all, contains-from_list, contains-items, or_false, or_comm}
 use Rattle.jls_values.proofs.Inserts.{any-insert}
+use Rattle.jls_values.proofs.Tests.{any_of_three}
 use Rattle.jls_partial.specs.LineSetLaws.{line_marks_total, line_marks_exact}
 use Rattle.jls_partial.specs.Marks.{mark_cmp, marks_of}
 use Rattle.jls_partial.specs.Packed.{Kept}
@@ -56,12 +57,8 @@ has-set (k ∷ ks) zero x old new ss d y s lt is more =
     spread false b c false = refl
 has-set (k ∷ ks) (suc i) x old new ss d y s lt is more =
     ap (λ b. (eq_by_cmp S y k.0 && list_any (eq_by_cmp nat_cmp s) k.1) || b) (has-set ks i x old new ss d y s (omega arith) is more)
-    ∙ regroup (eq_by_cmp S y k.0 && list_any (eq_by_cmp nat_cmp s) k.1) (has_mark S y s ks)
+    ∙ any_of_three (eq_by_cmp S y k.0 && list_any (eq_by_cmp nat_cmp s) k.1) (has_mark S y s ks)
     (eq_by_cmp S y x && list_any (eq_by_cmp nat_cmp s) ss)
-  where
-    regroup : (a b c : Bool) → (a || (b || c)) ≡ ((a || b) || c)
-    regroup true b c = refl
-    regroup false b c = refl
 
 -- where a line gets more sources, the marks of the lines are those from before and these
 pub marks-set : (ks : List Kept) (i : ℕ) (x : List ℕ) (old : sets.OrderedSet nat_cmp) (ss : List ℕ) (d : Kept) → i < length ks

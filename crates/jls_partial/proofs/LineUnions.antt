@@ -11,6 +11,7 @@ use Rattle.jls_values.specs.Join.{IsBelow}
 use Rattle.jls_values.specs.OrderedSet as sets
 use Rattle.jls_values.specs.OrderedSetLaws.{same_set, contains-insert_all}
 use Rattle.jls_values.specs.OrderedSetLaws.{contains-items, contains-union, insert_all-append}
+use Rattle.jls_values.proofs.Tests.{implied}
 use Rattle.jls_partial.specs.LineSet.{PictureLines, with_lines, line_sources, union_of_lines, has_same_line_shape, AreLineMarksHeld}
 use Rattle.jls_partial.specs.LineSet.{kept_lines as kept_lines_of}
 use Rattle.jls_partial.specs.LineSetLaws.{lines_total, lines_exact, line_marks_total, line_marks_exact}
@@ -18,7 +19,7 @@ use Rattle.jls_partial.specs.Marks.{marks_of}
 use Rattle.jls_partial.specs.Packed.{Kept}
 use Rattle.jls_partial.proofs.Entries.{S}
 use Rattle.jls_partial.proofs.Growth.{kept_more}
-use Rattle.jls_partial.proofs.MarkSets.{any_marks, has_given, prefix_above, marks_of-append, named, implied}
+use Rattle.jls_partial.proofs.MarkSets.{any_marks, has_given, prefix_above, marks_of-append, named}
 
 -- taking some lines, and then others, is taking all of them
 pub with_lines-append : (s : PictureLines) (xs ys : List Kept) → with_lines s (xs ++ ys) ≡ with_lines (with_lines s xs) ys

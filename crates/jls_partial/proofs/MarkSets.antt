@@ -1,7 +1,7 @@
 -- Marks of items: what the marks of a list of items with sources are, and the sources of each.
 use Rattle.std.proofs.Common.{◌≡◌, ℕ, Bool, true, false, ◌&&◌, ◌||◌, List, [], ◌∷◌, ◌++◌, map, refl, ap, sym, ◌∙◌, append_assoc}
 use Rattle.std.specs.declared.cmp.Ordering.{Ordering}
-use Rattle.std.specs.declared.cmp.Ordering.TheVariants.{Less, Equal, Greater}
+use Rattle.std.specs.declared.cmp.Ordering.TheVariants.{Less}
 use Rattle.std.specs.Cmp.{IsTotalOrder}
 use Rattle.std.specs.List.{list_any, AllByRecursion}
 use Rattle.std.specs.List.Sorted.{IsStrictlySortedBy}
@@ -11,14 +11,9 @@ use Rattle.std.proofs.lemmas.List.Folds.{list_any-append}
 use Rattle.std.proofs.lemmas.Map.Lookups.{CmpEqualImpliesEq, exact_unsigned}
 use Rattle.jls_values.specs.OrderedSet as set
 use Rattle.jls_values.specs.OrderedSetLaws.{contains-items, contains-insert_all, contains-union, items-from_list, same_set, or_false}
+use Rattle.jls_values.proofs.Tests.{absorbed, tied, with_either}
 use Rattle.jls_partial.specs.Marks.{mark_cmp, marks_of, sources_of}
 use Rattle.jls_partial.specs.MarkLaws.{eq_mark, contains-sources_of}
-
--- a test that follows from another adds nothing to it
-pub implied : (a b : Bool) → (b ≡ true → a ≡ true) → (a && b) ≡ b
-implied true b f = refl
-implied false true f = f refl
-implied false false f = refl
 
 -- items beside what each of them is given
 pub named : {K J : Type 0} (f : K → J) (xs : List K) → map (λ (k : K × J). k.0) (map (λ x. (x, f x)) xs) ≡ xs
@@ -50,11 +45,7 @@ module _ {K : Type 0} (R : K → K → Ordering) where
       none false = refl
   any_map_mark k l s (t ∷ ss) =
       (λ i. eq_mark R k l s t i || any_map_mark k l s ss i)
-      ∙ both (eq_by_cmp R k l) (eq_by_cmp nat_cmp s t) (list_any (eq_by_cmp nat_cmp s) ss)
-    where
-      both : (b c d : Bool) → ((b && c) || (b && d)) ≡ (b && (c || d))
-      both true c d = refl
-      both false c d = refl
+      ∙ with_either (eq_by_cmp R k l) (eq_by_cmp nat_cmp s t) (list_any (eq_by_cmp nat_cmp s) ss)
 
   -- a mark is one of a list exactly where its item has that source there
   pub any_marks : (x : K) (s : ℕ) (ks : List (K × List ℕ)) → list_any (eq_by_cmp (mark_cmp R) (x, s)) (marks_of ks) ≡ has_mark x s ks
@@ -123,11 +114,6 @@ module _ {K : Type 0} (R : K → K → Ordering) where
           | false ↦ λ e. has_given exact marks y s xs
         ] refl
       where
-        tied : (r : Ordering) → is_eq r ≡ true → r ≡ Equal
-        tied Less e = absurd cc
-        tied Equal e = refl
-        tied Greater e = absurd cc
-
         absorb : (a b : Bool) → (a || (b && a)) ≡ a
         absorb true b = refl
         absorb false true = refl
@@ -152,7 +138,3 @@ module _ {K : Type 0} {R : K → K → Ordering} (o : IsTotalOrder R) (exact : C
       ∙ ap (λ b. set.contains s q || b) (contains-insert_all o s xs q)
       ∙ absorbed (set.contains s q) (list_any (eq_by_cmp R q) xs)
       ∙ sym (contains-insert_all o s xs q))
-    where
-      absorbed : (a b : Bool) → (a || (a || b)) ≡ (a || b)
-      absorbed true b = refl
-      absorbed false b = refl

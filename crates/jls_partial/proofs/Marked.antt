@@ -11,6 +11,7 @@ use Rattle.std.proofs.lemmas.List.{map-append, take-append-drop}
 use Rattle.std.proofs.lemmas.List.Folds.{list_any-append}
 use Rattle.jls_values.specs.OrderedSet as set
 use Rattle.jls_values.specs.OrderedSetLaws.{same_set, contains-items, contains-insert_all, insert_all-append}
+use Rattle.jls_values.proofs.Lists.{all_append}
 use Rattle.jls_partial.specs.Marks.{mark_cmp}
 use Rattle.jls_partial.specs.MarkLaws.{eq_mark}
 use Rattle.jls_partial.specs.Marking.{MarksSome, readings_of_lines, readings_of_components}
@@ -41,16 +42,12 @@ taken_is_marked p r s h = ap (λ rs. record { shape = p.shape; readings = rs; ma
 pub marks_none : (p : PartialPicture) (s : ℕ) → MarksSome p s p
 marks_none p s = record { marked = []; held = tt; new_is = refl }
 
-all-append : (P : Reading → Type 0) (xs ys : List Reading) → AllByRecursion P xs → AllByRecursion P ys → AllByRecursion P (xs ++ ys)
-all-append P [] ys a b = b
-all-append P (x ∷ xs) ys a b = (a.0, all-append P xs ys a.1 b)
-
 -- some more are marked
 pub marks_then : (p q r : PartialPicture) (s : ℕ) (xs : List Reading) → q ≡ with_marks p s xs
     → AllByRecursion (λ r. set.contains p.readings r ≡ true) xs → MarksSome q s r → MarksSome p s r
 marks_then p q r s xs is held m = record {
   marked = xs ++ m.marked;
-  held = all-append (λ r. set.contains p.readings r ≡ true) xs m.marked held
+  held = all_append (λ r. set.contains p.readings r ≡ true) xs m.marked held
       (subst (λ (z : PartialPicture). AllByRecursion (λ r. set.contains z.readings r ≡ true) m.marked) is m.held);
   new_is = m.new_is ∙ ap (λ (z : PartialPicture). with_marks z s m.marked) is ∙ sym (with_marks-append p s xs m.marked);
 }

@@ -9,7 +9,6 @@ use Rattle.std.specs.BTreeMap.{is_at}
 use Rattle.std.specs.List.{AllByRecursion}
 use Rattle.std.specs.List.Sorted.{IsStrictlySortedBy}
 use Rattle.std.specs.Map.{lookup, set_value}
-use Rattle.std.specs.declared.cmp.Ordering.{Ordering}
 use Rattle.std.specs.Ordering.{nat_cmp, is_eq, eq_by_cmp, ordering_then}
 use Rattle.std.specs.Cmp.{IsTotalOrder, nat_cmp_is}
 use Rattle.std.proofs.lemmas.Cmp.{tied_itself, ranked, nat_cmp_total, on_total, then_total}
@@ -17,6 +16,7 @@ use Rattle.std.proofs.lemmas.Map.Lookups.{exact_unsigned, exact_pairs}
 use Rattle.std.proofs.lemmas.List.{map-append}
 use Rattle.jls_values.specs.OrderedSetLaws.{sorted-append}
 use Rattle.jls_values.proofs.Lists.{all_append}
+use Rattle.jls_values.proofs.Tests.{tied}
 use Rattle.jls_partial.specs.declared.packed_lines.PackedLines.{PackedLines}
 use Rattle.jls_partial.specs.declared.line_place.LinePlace.{LinePlace}
 use Rattle.jls_partial.specs.declared.line_place.PageNumber.{PageNumber}
@@ -39,11 +39,6 @@ page_total = then_total (on_total (λ (p : PageNumber). p.component) nat_cmp_tot
 same_page : (p q : PageNumber) → eq_by_cmp page_cmp p q ≡ true → p ≡ q
 same_page p q e = ap (λ (x : ℕ × ℕ). record { component = x.0; number = x.1 })
     (exact_pairs nat_cmp nat_cmp exact_unsigned exact_unsigned (p.component, p.number) (q.component, q.number) (tied (page_cmp p q) e))
-  where
-    tied : (r : Ordering) → is_eq r ≡ true → r ≡ Equal
-    tied Less e = absurd cc
-    tied Equal e = refl
-    tied Greater e = absurd cc
 
 -- ---- lines and their pages
 

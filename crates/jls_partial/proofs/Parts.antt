@@ -11,6 +11,7 @@ use Rattle.jls_values.specs.Join.{join_all}
 use Rattle.jls_values.specs.OrderedSet as set
 use Rattle.jls_values.specs.OrderedSet.{contains}
 use Rattle.jls_values.specs.OrderedSetLaws.{contains-union, same_set, or_false, items-from_list, union-associative}
+use Rattle.jls_values.proofs.Tests.{either}
 use Rattle.jls_partial.specs.Partial.{PartialPicture, readings_at, union, IsFitting}
 use Rattle.jls_partial.specs.Parts.{IsPartOf, EachLineIsHeld, JoinsHoldExactly, JoinsHoldAllMarks, PartsGiveThePicture, all_marks}
 use Rattle.jls_partial.specs.Marks.{mark_cmp}
@@ -18,7 +19,7 @@ use Rattle.jls_partial.specs.Reading.{Reading, reading_of, reading_cmp}
 use Rattle.jls_partial.specs.ReadingOrder.{reading_total, reading_exact, same_reading, marks_total, marks_exact}
 use Rattle.jls_partial.specs.Status.{status_of, IsSettled}
 use Rattle.jls_partial.specs.declared.status.Status.TheVariants.{Settled}
-use Rattle.jls_partial.proofs.Unions.{either, in_its_line, held_in_line, place_exists}
+use Rattle.jls_partial.proofs.Unions.{in_its_line, held_in_line, place_exists}
 
 -- ---- what a join holds
 

@@ -25,6 +25,7 @@ use Rattle.jls_partial.specs.Reading.{Reading, reading_cmp}
 use Rattle.jls_partial.specs.ReadingOrder.{reading_total, same_place}
 use Rattle.jls_partial.proofs.Entries.{S, samples_at}
 use Rattle.jls_values.specs.OrderedSetLaws.{items-from_list, sorted-append}
+use Rattle.jls_values.proofs.Lists.{all_append}
 
 -- the readings at one place rise as their samples do
 reading_below_block : (p : LinePlace) (x : List ℕ) (xs : List (List ℕ)) → AllByRecursion (λ y. S x y ≡ Less) xs
@@ -53,17 +54,13 @@ below-at_place r p [] h = tt
 below-at_place r p (x ∷ xs) h =
     (first_less (nat_cmp r.component p.component) (nat_cmp r.line p.line) (S r.samples x) h, below-at_place r p xs h)
 
-all-append : (P : Reading → Type 0) (xs ys : List Reading) → AllByRecursion P xs → AllByRecursion P ys → AllByRecursion P (xs ++ ys)
-all-append P [] ys p q = q
-all-append P (x ∷ xs) ys p q = (p.0, all-append P xs ys p.1 q)
-
 -- a reading at a place before those of all entries is below all their readings
 below-entries : (r : Reading) (es : List BareEntry) → AllByRecursion (λ q. place_cmp (place_of r) q ≡ Less) (map (λ e. e.0) es)
     → AllByRecursion (λ s. reading_cmp r s ≡ Less) (readings_of_entries es)
 below-entries r [] h = tt
 below-entries r (e ∷ es) h =
     subst (AllByRecursion (λ s. reading_cmp r s ≡ Less)) (sym (flat_map-cons (λ (e : BareEntry). map (at_place e.0) e.1) e es))
-    (all-append (λ s. reading_cmp r s ≡ Less) (map (at_place e.0) e.1) (readings_of_entries es) (below-at_place r e.0 e.1 h.0)
+    (all_append (λ s. reading_cmp r s ≡ Less) (map (at_place e.0) e.1) (readings_of_entries es) (below-at_place r e.0 e.1 h.0)
     (below-entries r es h.1))
 
 -- the readings of an earlier entry are below those of all later ones

@@ -14,6 +14,7 @@ use Rattle.std.proofs.lemmas.Map.Lookups.{exact_unsigned}
 use Rattle.jls_values.specs.OrderedSet as set
 use Rattle.jls_values.specs.OrderedSetLaws.{same_set, contains-items, contains-empty, items-from_list}
 use Rattle.jls_values.specs.Shape.{PictureShape}
+use Rattle.jls_values.proofs.Tests.{implied}
 use Rattle.jls_partial.specs.declared.line_place.LinePlace.{LinePlace}
 use Rattle.jls_partial.specs.Entries.{Entry, BareEntry, bare, readings_of_entries, partial_of}
 use Rattle.jls_partial.specs.Held.{IsEntry, AreEntries, kept_entry, bare_entry, IsLineEntry, IsStore, IsStoreOf}
@@ -34,7 +35,7 @@ use Rattle.jls_partial.proofs.BareEntries.{items_rise}
 use Rattle.jls_partial.proofs.Entries.{S, samples_at, lookup_from_each, holds_kept, fits_kept, countable_at, any_all}
 use Rattle.jls_partial.proofs.KeyedLists.{lookup-map}
 use Rattle.jls_partial.proofs.KeptEntries.{SourcesRise, kept_at, readings_are, holds_reading, holds_mark, has-entries, entries_again}
-use Rattle.jls_partial.proofs.MarkSets.{has_item, has_mark, any_items, has_given, named, implied}
+use Rattle.jls_partial.proofs.MarkSets.{has_item, has_mark, any_items, has_given, named}
 use Rattle.jls_partial.proofs.ReadBack.{readings_kept}
 
 -- ---- what is kept, as entries

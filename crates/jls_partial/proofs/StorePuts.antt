@@ -3,7 +3,6 @@ use Rattle.std.proofs.Common.{◌≡◌, ℕ, ◌<◌, ◌≤◌, ◌^◌, Bool,
 use Rattle.std.proofs.Common.{Some, None, refl, ap, sym, subst, ◌∙◌, arith}
 use Rattle.std.specs.Prelude.{IfSome, unwrap_or}
 use Rattle.std.specs.declared.cmp.Ordering.{Ordering}
-use Rattle.std.specs.declared.cmp.Ordering.TheVariants.{Less, Equal, Greater}
 use Rattle.std.specs.BTreeMap.{is_at}
 use Rattle.std.specs.Cmp.{IsTotalOrder}
 use Rattle.std.specs.List.{list_any, AllByRecursion}
@@ -17,6 +16,7 @@ use Rattle.jls_values.specs.OrderedSet as set
 use Rattle.jls_values.specs.OrderedSetLaws.{same_set, contains-items, contains-insert, contains-insert_all}
 use Rattle.jls_values.specs.Shape.{PictureShape}
 use Rattle.jls_values.specs.OrderedSetLaws.{or_false}
+use Rattle.jls_values.proofs.Tests.{either, tied}
 use Rattle.jls_partial.specs.declared.line_place.LinePlace.{LinePlace}
 use Rattle.jls_partial.specs.Entries.{at_place, partial_of}
 use Rattle.jls_partial.specs.Held.{kept_entry, IsLineEntry, IsStore, IsStoreOf}
@@ -35,11 +35,6 @@ use Rattle.jls_partial.proofs.BareEntries.{items_rise, all_members}
 use Rattle.jls_partial.proofs.Entries.{S, each_from_lookup, lookup_from_each}
 use Rattle.jls_partial.proofs.MarkSets.{has_mark, any_marks}
 use Rattle.jls_partial.proofs.Store.{IsAt, is_there, reading_there, mark_there}
-
--- what follows from each of two tests follows from either
-pub either : (P : Type 0) (b c : Bool) → (b ≡ true → P) → (c ≡ true → P) → (b || c) ≡ true → P
-either P true c f g e = f refl
-either P false c f g e = g e
 
 -- a fact of all that a set contains is one of its items
 pub all_items : {K : Type 0} {R : K → K → Ordering} (o : IsTotalOrder R) (P : K → Type 0) (s : set.OrderedSet R)
@@ -67,11 +62,6 @@ small_of (t ∷ ss) s h e =
       | true ↦ λ t_is _. subst (λ (n : ℕ). n < 2 ^ 32) (sym (exact_unsigned s t (tied (nat_cmp s t) t_is))) h.0
       | false ↦ λ _ f. small_of ss s h.1 f
     ] refl e
-  where
-    tied : (r : Ordering) → is_eq r ≡ true → r ≡ Equal
-    tied Less e = absurd cc
-    tied Equal e = refl
-    tied Greater e = absurd cc
 
 module _ (shape : PictureShape) (at : LinePlace) (L0 L : PictureLines) (x ss : List ℕ) (old : IsAt shape at L0) (puts : PutsLine L0 x ss L)
     (fits : reading_fault shape at.component at.line x ≡ None) (small : AllByRecursion (λ n. n < 2 ^ 32) ss) where

@@ -14,6 +14,7 @@ use Rattle.jls_values.specs.OrderedSet as set
 use Rattle.jls_values.specs.OrderedSetLaws.{same_set, contains-empty}
 use Rattle.jls_values.specs.Shape.{PictureShape, IsShape}
 use Rattle.jls_values.specs.SourceList.{IsSourceList}
+use Rattle.jls_values.proofs.Tests.{either}
 use Rattle.jls_partial.specs.declared.line_place.LinePlace.{LinePlace}
 use Rattle.jls_partial.specs.declared.text_fault.TextFault.{TextFault}
 use Rattle.jls_partial.specs.declared.text_fault.TextFault.TheVariants as fault
@@ -38,7 +39,7 @@ use Rattle.jls_partial.proofs.KeptEntries.{SourcesRise, readings_are, holds_read
 use Rattle.jls_partial.proofs.KeptEntries.{partial_again}
 use Rattle.jls_partial.proofs.MarkSets.{has_item, has_mark, sources_again}
 use Rattle.jls_partial.proofs.ReadBack.{readings_kept}
-use Rattle.jls_partial.proofs.StorePuts.{either, all_items, small_of as small_in}
+use Rattle.jls_partial.proofs.StorePuts.{all_items, small_of as small_in}
 use Rattle.jls_partial.proofs.TextFields.{IsBytes, bind_ok, passed_ok, ok_is, Takes-then, wide32, number_takes, number_again, magic_takes}
 use Rattle.jls_partial.proofs.TextFields.{magic_again, version_takes, version_again, shape_takes, shape_again}
 use Rattle.jls_partial.proofs.TextReadings.{IsSaid}

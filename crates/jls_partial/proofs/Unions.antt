@@ -21,6 +21,7 @@ use Rattle.jls_partial.specs.ReadingOrder.{place_total, same_place, same_reading
 use Rattle.jls_partial.proofs.ReadBack.{is_there, eq_there}
 use Rattle.jls_values.specs.OrderedSet.{contains, items}
 use Rattle.jls_values.specs.OrderedSetLaws.{contains-items}
+use Rattle.jls_values.proofs.Tests.{either}
 
 -- tests of which one implies the other, or excludes it
 absorb : (a b d : Bool) → (a ≡ true → b ≡ true) → (a || (b && d)) ≡ (b && (a || d))
@@ -67,11 +68,6 @@ in_line p r c l = any_line r c l (items p.readings)
 pub held_in_line : (p : PartialPicture) (r : Reading) (c l : ℕ) → list_any (eq_by_cmp reading_cmp r) (line_readings p c l) ≡ true
     → contains p.readings r ≡ true
 held_in_line p r c l e = (and_parts (is_at (place_cmp (place c l)) (place_of r)) (contains p.readings r) (sym (in_line p r c l) ∙ e)).1
-
--- what follows from each of two tests follows from either
-pub either : (P : Type 0) (b c : Bool) → (b ≡ true → P) → (c ≡ true → P) → (b || c) ≡ true → P
-either P true c f g e = f refl
-either P false c f g e = g e
 
 -- what stands in the first lines, or the first components, is held
 pub held_from_lines : (p : PartialPicture) (r : Reading) (c n : ℕ) → list_any (eq_by_cmp reading_cmp r) (readings_of_lines p c n) ≡ true

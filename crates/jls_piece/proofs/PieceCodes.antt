@@ -1,21 +1,21 @@
 -- The codes of pieces: no code begins another's of the same shape, and the code of first lines begins that of all.
 use Rattle.std.proofs.Common.{◌≡◌, ℕ, zero, suc, ◌+◌, ◌*◌, ◌<◌, ◌≤◌, Bool, true, false, List, [], ◌∷◌}
 use Rattle.std.proofs.Common.{◌++◌, length, take, drop, map, refl, sym}
-use Rattle.std.proofs.Common.{ap, ◌∙◌, subst, arith, inl, inr, append_assoc, length-append}
+use Rattle.std.proofs.Common.{ap, ◌∙◌, subst, arith, inl, inr, length-append}
 use Rattle.std.specs.Prelude.{◌/◌}
 use Rattle.std.specs.Simd.{first_chunks}
 use Rattle.std.proofs.Math.Nat.{suc-mul, div-zero, mul-add-div_right}
 use Rattle.std.proofs.lemmas.Bool.{cases_Bool}
-use Rattle.std.proofs.lemmas.List.{append-nil, map-append, take-append-le, drop-append-le, length-drop}
+use Rattle.std.proofs.lemmas.List.{map-append, take-append-le, drop-append-le, length-drop}
 use Rattle.jls_values.specs.Params.{CodingParameters, AreCodingParameters}
 use Rattle.jls_interval.specs.Lines.{AreLines}
 use Rattle.jls_interval.specs.Code.{code}
 use Rattle.jls_interval.proofs.CodesApart.{codes_apart as line_codes_apart}
 use Rattle.jls_interval.proofs.HeadLines.{code_parts as line_code_parts}
-use Rattle.jls_pixel.specs.Pixels.{AreRows, rows_above}
-use Rattle.jls_pixel.specs.Events.{Event, events_from, events_after, events}
-use Rattle.jls_pixel.specs.Code.{event_bits, bits_of_events, pixel_code}
+use Rattle.jls_pixel.specs.Pixels.{AreRows}
+use Rattle.jls_pixel.specs.Code.{pixel_code}
 use Rattle.jls_pixel.proofs.CodesApart.{codes_apart as pixel_codes_apart}
+use Rattle.jls_pixel.proofs.HeadRows.{code_parts as pixel_code_parts}
 use Rattle.jls_piece.specs.Lines.{PieceShape, turned, lines_of, rows_of, AreOfWholeRows}
 use Rattle.jls_piece.specs.Code.{piece_code}
 use Rattle.jls_piece.proofs.RowLines.{first_rows, rows_are, lines_again, are_first_rows, whole_count}
@@ -69,36 +69,6 @@ codes_apart i ok some xs ys s t a whole b whole' e =
         (sym (own_lines p w c n xs a (whole h)) ∙ ap (lines_of c) r.0 ∙ own_lines p w c n ys b (whole' h), r.1)
 
 -- First lines ---------------------------------------------------------------------------------------
-
--- the events of rows, and of those after them
-events_append : (w c : ℕ) (before xs ys : List (List (List ℕ)))
-    → events_after w c before (xs ++ ys) ≡ events_after w c before xs ++ events_after w c (before ++ xs) ys
-unfolding events_after
-events_append w c before [] ys = ap (λ z. events_after w c z ys) (sym (append-nil before))
-events_append w c before (x ∷ xs) ys =
-    let own = events_from w c (rows_above before) [] false 0 x in let on = before ++ x ∷ [] in
-    ap (λ z. own ++ z) (events_append w c on xs ys
-    ∙ ap (λ z. events_after w c on xs ++ events_after w c z ys) (append_assoc before (x ∷ []) xs))
-    ∙ sym (append_assoc own (events_after w c on xs) (events_after w c (before ++ x ∷ xs) ys))
-
--- the bits of some events with more are those of the events, and then those of the others after them
-bits_append : (p : CodingParameters) (earlier xs ys : List Event)
-    → bits_of_events p earlier (xs ++ ys) ≡ bits_of_events p earlier xs ++ bits_of_events p (earlier ++ xs) ys
-unfolding bits_of_events
-bits_append p earlier [] ys = ap (λ z. bits_of_events p z ys) (sym (append-nil earlier))
-bits_append p earlier (x ∷ xs) ys =
-    ap (λ z. event_bits p earlier x ++ z)
-    (bits_append p (earlier ++ x ∷ []) xs ys
-    ∙ ap (λ z. bits_of_events p (earlier ++ x ∷ []) xs ++ bits_of_events p z ys) (append_assoc earlier (x ∷ []) xs))
-    ∙ sym (append_assoc (event_bits p earlier x) (bits_of_events p (earlier ++ x ∷ []) xs) (bits_of_events p (earlier ++ x ∷ xs) ys))
-
--- the code of rows begins the code of these with more rows
-pixel_code_parts : (p : CodingParameters) (w c : ℕ) (xs ys : List (List (List ℕ)))
-    → (tail : List Bool) × (pixel_code p w c (xs ++ ys) ≡ pixel_code p w c xs ++ tail)
-unfolding pixel_code
-pixel_code_parts p w c xs ys =
-    let later = events_after w c xs ys in
-    (bits_of_events p (events w c xs) later, ap (bits_of_events p []) (events_append w c [] xs ys) ∙ bits_append p [] (events w c xs) later)
 
 -- the rows of first lines are the first rows
 chunks_append : (c n m : ℕ) (xs ys : List (List ℕ)) → length xs ≡ n * c

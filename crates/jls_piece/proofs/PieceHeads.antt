@@ -1,8 +1,9 @@
 -- Bits have one head.
-use Rattle.std.proofs.Common.{◌≡◌, ℕ, zero, suc, ◌<◌, ◌≤◌, Bool, List, [], ◌∷◌, ◌++◌, length, refl, sym, ap, ◌∙◌, subst, arith, inl, inr}
+use Rattle.std.proofs.Common.{◌≡◌, ℕ, ◌<◌, Bool, List, [], ◌∷◌, ◌++◌, length, refl, sym, ap, ◌∙◌, subst, arith, inl, inr}
 use Rattle.std.proofs.Common.{append_assoc, length-append}
 use Rattle.std.proofs.lemmas.List.{append-nil}
 use Rattle.jls_values.specs.Params.{AreCodingParameters}
+use Rattle.jls_values.proofs.Lists.{first_items, not_empty}
 use Rattle.jls_bits.specs.Bits.{bits_read}
 use Rattle.jls_interval.specs.Lines.{AreLines}
 use Rattle.jls_interval.proofs.HeadLines.{prefix_lines}
@@ -12,17 +13,6 @@ use Rattle.jls_piece.specs.Reads.{Reads}
 use Rattle.jls_piece.specs.Laws.{IsCutCode}
 use Rattle.jls_piece.specs.Heads.{BeginsWithFirst, IsHead, IsHeadOfPiece}
 use Rattle.jls_piece.proofs.PieceCodes.{codes_apart, code_parts}
-
--- a list is its first n items, and the others
-take_drop : (n : ℕ) (xs : List (List ℕ)) → n ≤ length xs
-    → (prefix : List (List ℕ)) × (back : List (List ℕ)) × (xs ≡ prefix ++ back) × (length prefix ≡ n)
-take_drop zero xs h = ([], xs, refl, refl)
-take_drop (suc n) [] h = absurd (omega arith)
-take_drop (suc n) (x ∷ xs) h = let r = take_drop n xs (omega arith) in (x ∷ r.0, r.1, ap (λ z. x ∷ z) r.2, ap suc r.3)
-
-nothing_is : (xs : List Bool) (y : Bool) (ys : List Bool) → xs ++ y ∷ ys ≡ [] → ⊥
-nothing_is [] y ys h = cc
-nothing_is (x ∷ xs) y ys h = cc
 
 -- lines of whole rows, where others are as many
 same_whole : (i : PieceShape) (xs ys : List (List ℕ)) → length xs ≡ length ys → AreOfWholeRows i xs → AreOfWholeRows i ys
@@ -40,7 +30,7 @@ module _ (i : PieceShape) (ok : AreCodingParameters i.params) (some : 0 < i.widt
     first_of_others a b xs f =
         let l = length-append xs f.others in let l1 = ap length f.lines_are in let l2 = b.are_lines.count_is in
         let l3 = a.are_lines.count_is in
-        let t = take_drop (length xs) a.lines (omega (arith, l, l1, l2, l3)) in
+        let t = first_items (length xs) a.lines (omega (arith, l, l1, l2, l3)) in
         let more = a.missing ∷ a.more_missing in
         let whole = same_whole i xs t.0 (sym t.3) f.whole_rows in
         let parts = code_parts i t.0 t.1 whole in
@@ -79,7 +69,7 @@ module _ (i : PieceShape) (ok : AreCodingParameters i.params) (some : 0 < i.widt
       let e : piece_code i lines ++ (r.unread ++ more) ≡ piece_code i cut.lines ++ [] =
       sym (append_assoc (piece_code i lines) r.unread more)
       ∙ ap (λ v. v ++ more) (sym r.begins.data_bits.read) ∙ cut.code_is ∙ sym (append-nil (piece_code i cut.lines)) in
-      nothing_is r.unread cut.missing cut.more_missing
+      not_empty r.unread cut.missing cut.more_missing
       (codes_apart i ok some lines cut.lines (r.unread ++ more) [] r.begins.are_lines r.begins.whole_rows cut.are_lines
       cut.whole_rows e).1
 

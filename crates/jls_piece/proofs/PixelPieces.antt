@@ -1,11 +1,12 @@
 -- A piece by sample is an interval by sample.
-use Rattle.std.proofs.Common.{◌≡◌, ℕ, ◌+◌, ◌*◌, ◌<◌, ◌≤◌, suc, Bool, List, [], ◌∷◌, ◌++◌, length, refl}
+use Rattle.std.proofs.Common.{◌≡◌, ℕ, ◌+◌, ◌*◌, ◌<◌, ◌≤◌, suc, Bool, List, [], ◌++◌, length, refl}
 use Rattle.std.proofs.Common.{sym, ap, ◌∙◌, subst, arith, inl, inr}
 use Rattle.std.specs.List.{AllByRecursion}
 use Rattle.std.proofs.lemmas.Bool.{cases_lt}
 use Rattle.std.proofs.lemmas.Grind.{flat_map-append}
 use Rattle.std.proofs.lemmas.Nat.{mul-le}
 use Rattle.std.proofs.Math.Nat.{suc-mul}
+use Rattle.jls_values.proofs.Lists.{all_prefix}
 use Rattle.jls_bits.specs.Bits.{AreDataBits}
 use Rattle.jls_interval.specs.Lines.{AreLines}
 use Rattle.jls_pixel.specs.Pixels.{PixelShape, IsRow, AreRows}
@@ -20,10 +21,6 @@ use Rattle.jls_piece.specs.Heads.{BeginsWithFirst, AreWholeLines, IsHead, IsHead
 use Rattle.jls_piece.specs.Kinds.{IsPixelInterval}
 use Rattle.jls_piece.proofs.RowLines.{length_lines, rows_have_lines, lines_have_rows, rows_are_one}
 use Rattle.jls_piece.proofs.PieceCodes.{first_rows_begin}
-
-all_prefix : {X : Type 0} (P : X → Type 0) (xs ys : List X) → AllByRecursion P (xs ++ ys) → AllByRecursion P xs
-all_prefix P [] ys h = tt
-all_prefix P (x ∷ xs) ys h = (h.0, all_prefix P xs ys h.1)
 
 module _ (i : PixelShape) (some : 0 < i.components) where
   abbrev own : PieceShape

@@ -9,6 +9,7 @@ use Rattle.std.proofs.Math.Seq.{take-append_seam, drop-append_seam}
 use Rattle.std.proofs.lemmas.List.{ext_get_or, get_or-map, length-map, length-take-le, length-drop, take-append-drop, append-nil}
 use Rattle.std.proofs.lemmas.List.FromFn.{length-map-range_with_len, get_or-map-range_with_len, map-range_with_len_more}
 use Rattle.jls_values.specs.Params.{CodingParameters}
+use Rattle.jls_values.proofs.Lists.{all_get}
 use Rattle.jls_interval.specs.Lines.{IsLine, AreLines}
 use Rattle.jls_interval.proofs.EventsApart.{small_get}
 use Rattle.jls_pixel.specs.Pixels.{IsRow, AreRows, samples_of}
@@ -24,12 +25,6 @@ length_turned count lists = length-map-range_with_len (λ place. samples_of plac
 get_turned : (count : ℕ) (lists : List (List ℕ)) (j : ℕ) → j < count → get_or (turned count lists) j [] ≡ samples_of j lists
 unfolding turned
 get_turned count lists j h = get_or-map-range_with_len (λ place. samples_of place lists) 0 count j j [] h (omega arith)
-
--- a list of some, all of which have a property
-all_get : {X : Type 0} (P : X → Type 0) (xs : List X) (i : ℕ) (d : X) → i < length xs → AllByRecursion P xs → P (get_or xs i d)
-all_get P [] i d h all = absurd (omega arith)
-all_get P (x ∷ xs) zero d h all = all.0
-all_get P (x ∷ xs) (suc i) d h all = all_get P xs i d (omega arith) all.1
 
 -- lists of one length, turned twice
 pub turned_twice : (k : ℕ) (lists : List (List ℕ)) → AllByRecursion (λ list. length list ≡ k) lists

@@ -1,5 +1,5 @@
 -- What one more sample or event does to what a coder carries.
-use Rattle.std.proofs.Common.{◌≡◌, ℕ, Bool, false, cond, List, [], ◌∷◌, ◌++◌, get_or, refl, sym, ap, ◌∙◌, subst, inl, inr}
+use Rattle.std.proofs.Common.{◌≡◌, ℕ, Bool, false, cond, List, [], ◌∷◌, ◌++◌, refl, sym, ap, ◌∙◌, subst, inl, inr}
 use Rattle.std.specs.Prelude.{ℤ}
 use Rattle.std.specs.List.{fold}
 use Rattle.std.proofs.lemmas.Bool.{cases_eq, eq-eqb, ne_eqb}
@@ -15,7 +15,7 @@ use Rattle.jls_context.specs.Interruption.{initial_run_cell, run_updated}
 use Rattle.jls_context.specs.Variables.{Variables, initial_variables, cell_at, run_cell_at}
 use Rattle.jls_interval.specs.Cells.{regular_error, interruption_error}
 use Rattle.jls_interval.proofs.FoldedEvents.{fold_passing}
-use Rattle.jls_interval.proofs.AfterEvents.{get_same}
+use Rattle.jls_interval.proofs.AfterEvents.{get_same, cell_kept}
 use Rattle.jls_pixel.specs.Events.{Event}
 use Rattle.jls_pixel.specs.Cells.{CodedSample, regular, interrupting, coded, coded_samples, uses_cell, cell_after, cell_before}
 use Rattle.jls_pixel.specs.Cells.{is_interrupting}
@@ -32,13 +32,6 @@ run_cell_more : (p : CodingParameters) (earlier : List CodedSample) (x : CodedSa
     (run_cell_before p earlier)
 unfolding run_cell_before
 run_cell_more p earlier x = fold_passing (run_cell_after p) is_interrupting (initial_run_cell p) earlier x
-
--- other variables leave a cell as it was
-cell_kept : (cells cells' : Variables) → cells'.regular ≡ cells.regular → cells'.parameters ≡ cells.parameters → (q : ℕ)
-    → cell_at cells' q ≡ cell_at cells q
-unfolding cell_at
-cell_kept cells cells' a b q =
-    ap (λ z. get_or z q (initial_cell cells'.parameters)) a ∙ ap (λ z. get_or cells.regular q (initial_cell z)) b
 
 -- before the first sample
 pub cells_at_start : (p : CodingParameters) → CellsAfter p (initial_variables p) []

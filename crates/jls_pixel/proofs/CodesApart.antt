@@ -5,7 +5,7 @@ use Rattle.std.specs.List.{AllByRecursion}
 use Rattle.std.proofs.lemmas.Bool.{cases_Bool, cases_lt}
 use Rattle.jls_values.specs.Params.{CodingParameters, AreCodingParameters}
 use Rattle.jls_interval.specs.Stepwise.{StepwiseCode, Leads, bits_of_steps, IsEnd, IsKept}
-use Rattle.jls_interval.proofs.StepwiseCodes.{one_code}
+use Rattle.jls_interval.proofs.StepwiseCodes.{one_code, one_place}
 use Rattle.jls_pixel.specs.Pixels.{PixelShape, IsPixel, AreRows, rows_above, run_value}
 use Rattle.jls_pixel.specs.Events.{Event, regular_pixel, run_to_end, interrupted_run, events}
 use Rattle.jls_pixel.specs.Code.{event_bits, bits_of_events, pixel_code}
@@ -69,15 +69,10 @@ codes_apart p w c n ok some xs ys s t a b e =
     (finished p w c n ys b.count_is) (ap (λ z. z ++ s) (sym (code_is p w c n xs)) ∙ e ∙ ap (λ z. z ++ t) (code_is p w c n ys)) in
     (same_rows r.0, r.1)
   where
-    -- the events lead to one place
-    one_place : (es : List Event) (q z y : Position) → Leads (pixel_steps p w c n) q es z → Leads (pixel_steps p w c n) q es y → z ≡ y
-    one_place [] q z y l m = sym l ∙ m
-    one_place (e ∷ es) q z y l m = one_place es (moved w c q e) z y l.1 m.1
-
     same_rows : events w c xs ≡ events w c ys → xs ≡ ys
     same_rows h =
         ap (λ (z : Position). z.rows)
-        (one_place (events w c ys) start (finish w c xs) (finish w c ys)
+        (one_place (pixel_steps p w c n) (events w c ys) start (finish w c xs) (finish w c ys)
         (subst (λ z. Leads (pixel_steps p w c n) start z (finish w c xs)) h (rows_grow p w c n some xs a))
         (rows_grow p w c n some ys b))
 

@@ -2,6 +2,7 @@
 use Rattle.std.proofs.Common.{◌≡◌, ℕ, ◌<◌, Bool, List, [], ◌∷◌, ◌++◌, refl, sym, ap, ◌∙◌, subst, inl, inr, append_assoc}
 use Rattle.std.proofs.lemmas.List.{append-nil}
 use Rattle.jls_values.specs.Params.{CodingParameters, AreCodingParameters}
+use Rattle.jls_values.proofs.Lists.{not_empty}
 use Rattle.jls_context.specs.Variables.{Variables}
 use Rattle.jls_interval.specs.Stepwise.{Leads, bits_of_steps}
 use Rattle.jls_interval.proofs.StepwiseCodes.{one_begins}
@@ -20,7 +21,7 @@ use Rattle.jls_pixel.proofs.RowsGrow.{grown_part}
 use Rattle.jls_pixel.proofs.CodesApart.{codes_apart}
 use Rattle.jls_pixel.proofs.RowSteps.{begun_stuck}
 use Rattle.jls_pixel.proofs.PixelReading.{working, shape_same}
-use Rattle.jls_pixel.proofs.HeadRows.{nothing_is, cut_code, head_is}
+use Rattle.jls_pixel.proofs.HeadRows.{cut_code, head_is}
 
 module _ (p : CodingParameters) (w c n : ℕ) (given : List Bool) where
   -- bits that begin no rows' code, whatever comes
@@ -40,7 +41,7 @@ module _ (p : CodingParameters) (w c n : ℕ) (given : List Bool) where
         let e : pixel_code p w c rows ++ (unread ++ more) ≡ pixel_code p w c cut.rows ++ [] =
         sym (append_assoc (pixel_code p w c rows) unread more)
         ∙ ap (λ z. z ++ more) (sym is) ∙ cut.code_is ∙ sym (append-nil (pixel_code p w c cut.rows)) in
-        nothing_is unread cut.missing cut.more_missing
+        not_empty unread cut.missing cut.more_missing
         (codes_apart p w c n ok some rows cut.rows (unread ++ more) [] are cut.are_rows e).1
 
     -- bits after the last row

@@ -1,5 +1,5 @@
 -- Bits that break off in a run.
-use Rattle.std.proofs.Common.{◌≡◌, ℕ, zero, suc, ◌+◌, ◌-◌, ◌*◌, ◌^◌, ◌<◌, ◌≤◌, Bool, true, false, List, [], ◌∷◌, ◌++◌, replicate}
+use Rattle.std.proofs.Common.{◌≡◌, ℕ, ◌+◌, ◌-◌, ◌*◌, ◌^◌, ◌<◌, ◌≤◌, Bool, true, false, List, [], ◌∷◌, ◌++◌, replicate}
 use Rattle.std.proofs.Common.{sym, ap, ◌∙◌, subst, arith}
 use Rattle.std.proofs.lemmas.List.{append-nil}
 use Rattle.jls_bits.specs.Bits.{bits}
@@ -9,14 +9,9 @@ use Rattle.jls_interval.specs.Reading.{NoRun, Taken, after_blocks}
 use Rattle.jls_interval.specs.CutEvents.{IsProperPrefix}
 use Rattle.jls_interval.specs.CutEventsOpen.{BeginsRun}
 use Rattle.jls_interval.proofs.EventsApart.{j_small}
-use Rattle.jls_interval.proofs.BlocksTaken.{taken_with, end_after, end_cases}
+use Rattle.jls_interval.proofs.BlocksTaken.{taken_with, end_after, end_cases, ones_add}
 use Rattle.jls_interval.proofs.CutRuns.{count_goes_on, count_too_long}
 use Rattle.jls_pixel.specs.OpenEvents.{NoRunToEnd}
-
-ones_add : (m n : ℕ) (s : List Bool) → replicate (m + n) true ++ s ≡ replicate m true ++ (replicate n true ++ s)
-ones_add zero n s = let e : 0 + n ≡ n = omega arith in ap (λ z. replicate z true ++ s) e
-ones_add (suc m) n s = let e : suc m + n ≡ suc (m + n) = omega arith in
-    ap (λ z. replicate z true ++ s) e ∙ ap (λ z. true ∷ z) (ones_add m n s)
 
 -- a run to the end, after more full blocks
 after_more : (n : ℕ) (b : Blocks) → run_to_end_bits (after_blocks n b) ≡ replicate n true ++ run_to_end_bits b

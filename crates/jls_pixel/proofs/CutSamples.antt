@@ -2,6 +2,7 @@
 use Rattle.std.proofs.Common.{◌≡◌, ℕ, ◌-◌, ◌^◌, ◌≤◌, Bool, true, false, List, [], ◌∷◌, ◌++◌, refl, sym, ap, ◌∙◌, append_assoc}
 use Rattle.std.proofs.lemmas.List.{append-nil}
 use Rattle.jls_values.specs.Params.{CodingParameters, AreCodingParameters, qbpp, limit}
+use Rattle.jls_values.proofs.Lists.{not_empty}
 use Rattle.jls_bits.specs.Golomb.{golomb, has_golomb, BeginsCodeOf}
 use Rattle.jls_bits.specs.CodeState.{RefusesCode}
 use Rattle.jls_bits.proofs.Codes.{small_has_code}
@@ -24,7 +25,6 @@ use Rattle.jls_pixel.specs.OpenSamples.{first_bits, IsOpenSample}
 use Rattle.jls_pixel.specs.declared.sample.SampleKind.{SampleKind}
 use Rattle.jls_pixel.specs.declared.sample.SampleKind.TheVariants.{Regular, Interrupting}
 use Rattle.jls_pixel.specs.declared.cut_sample.OpenSample.{OpenSample}
-use Rattle.jls_pixel.proofs.HeadRows.{nothing_is}
 use Rattle.jls_pixel.proofs.SampleSteps.{regular_is, interrupting_is, run_has}
 
 -- Codes ---------------------------------------------------------------------------------------------
@@ -37,7 +37,7 @@ module _ (k g q : ℕ) (given : List Bool) where
       let more = cut.missing ∷ cut.more_missing in
       let e : golomb k g q m ++ [] ≡ golomb k g q n ++ (unread ++ more) =
       append-nil (golomb k g q m) ∙ cut.whole_is ∙ ap (λ z. z ++ more) is ∙ append_assoc (golomb k g q n) unread more in
-      nothing_is unread cut.missing cut.more_missing (sym (golomb_same k g q m n [] (unread ++ more) has' has e).1)
+      not_empty unread cut.missing cut.more_missing (sym (golomb_same k g q m n [] (unread ++ more) has' has e).1)
 
   -- a bit that no code has there
   pub refused_cuts_none : (fed after : List Bool) (bit : Bool) → (fed ++ bit ∷ []) ++ after ≡ given → RefusesCode k g q (fed ++ bit ∷ [])

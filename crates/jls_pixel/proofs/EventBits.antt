@@ -1,16 +1,15 @@
 -- Every event that can come next has a bit.
-use Rattle.std.proofs.Common.{◌≡◌, ℕ, ◌-◌, ◌/◌, ◌^◌, ◌<◌, Bool, true, false, ltb, List, [], ◌∷◌, ◌++◌, length, replicate, sym, ap, ◌∙◌}
+use Rattle.std.proofs.Common.{◌≡◌, ℕ, ◌-◌, ◌<◌, Bool, true, false, List, [], ◌∷◌, ◌++◌, length, replicate, sym, ap, ◌∙◌}
 use Rattle.std.proofs.Common.{arith}
-use Rattle.std.proofs.Common.{inl, inr, refl}
-use Rattle.std.proofs.lemmas.Bool.{cases_Bool}
+use Rattle.std.proofs.Common.{refl}
 use Rattle.jls_values.specs.Params.{CodingParameters}
+use Rattle.jls_values.proofs.Lists.{not_empty}
 use Rattle.jls_bits.specs.Bits.{bits}
-use Rattle.jls_bits.specs.Golomb.{golomb}
 use Rattle.jls_context.specs.declared.mode.Neighbours.{Neighbours}
 use Rattle.jls_interval.specs.Runs.{run_order, blocks}
 use Rattle.jls_interval.specs.Stepwise.{Leads}
-use Rattle.jls_interval.proofs.Golomb.{golomb_short, golomb_long}
 use Rattle.jls_interval.proofs.BlocksTaken.{end_cases}
+use Rattle.jls_interval.proofs.CutEvents.{golomb_some}
 use Rattle.jls_pixel.specs.Pixels.{rows_above}
 use Rattle.jls_pixel.specs.Events.{Event, regular_pixel, run_to_end, interrupted_run}
 use Rattle.jls_pixel.specs.Cells.{CodedSample, regular, coded_with, coded_samples, run_index_before}
@@ -20,20 +19,9 @@ use Rattle.jls_pixel.proofs.PixelLists.{nears_length}
 use Rattle.jls_pixel.proofs.EventsApart.{run_index_before_small}
 use Rattle.jls_pixel.proofs.GrowthEnds.{parted_from}
 
-not_none : (xs : List Bool) (y : Bool) (ys : List Bool) → xs ++ y ∷ ys ≡ [] → ⊥
-not_none [] y ys h = cc
-not_none (x ∷ xs) y ys h = cc
-
 none_left : (xs ys : List Bool) → xs ++ ys ≡ [] → xs ≡ []
 none_left [] ys h = refl
 none_left (x ∷ xs) ys h = cc
-
-golomb_some : (k g q m : ℕ) → golomb k g q m ≡ [] → ⊥
-golomb_some k g q m e =
-    elim (cases_Bool (ltb (m / 2 ^ k) (g - q - 1))) [
-      | inl h ↦ not_none (replicate (m / 2 ^ k) false) true (bits k m ++ []) (sym (golomb_short k g q m [] h) ∙ ap (λ z. z ++ []) e)
-      | inr h ↦ not_none (replicate (g - q - 1) false) true (bits q (m - 1) ++ []) (sym (golomb_long k g q m [] h) ∙ ap (λ z. z ++ []) e)
-    ]
 
 regular_some : (p : CodingParameters) (earlier : List CodedSample) (near : Neighbours) (s : ℕ)
     → sample_bits p 0 earlier (regular near s) ≡ [] → ⊥
@@ -60,7 +48,7 @@ event_some p w c n some z (run_to_end count) short next h =
     let x : [] ≡ true ∷ b.0 = sym (ap (λ v. v ++ []) h) ∙ b.1 in cc
 event_some p w c n some z (interrupted_run count nears pixel) short next h =
     let run = blocks (run_index_before z.earlier) count in
-    not_none (replicate run.full_blocks true) false (bits (run_order run.run_index) run.remaining)
+    not_empty (replicate run.full_blocks true) false (bits (run_order run.run_index) run.remaining)
     (none_left (replicate run.full_blocks true ++ false ∷ bits (run_order run.run_index) run.remaining) _ h)
 
 pub events_some : (p : CodingParameters) (w c n : ℕ) → 0 < w → 0 < c → (es : List Event) (z : Position) (e : Event)

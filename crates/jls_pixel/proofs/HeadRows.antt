@@ -7,9 +7,10 @@ use Rattle.std.proofs.lemmas.Bool.{cases_lt}
 use Rattle.std.proofs.lemmas.Nat.{mul-le}
 use Rattle.std.proofs.Math.Nat.{suc-mul}
 use Rattle.jls_values.specs.Params.{CodingParameters, AreCodingParameters}
+use Rattle.jls_values.proofs.Lists.{all_prefix, first_items, not_empty}
 use Rattle.jls_bits.specs.Bits.{bits_read}
 use Rattle.jls_interval.specs.Stepwise.{StepwiseCode, Leads, bits_of_steps, IsEnd}
-use Rattle.jls_interval.proofs.StepwiseCodes.{one_begins}
+use Rattle.jls_interval.proofs.StepwiseCodes.{one_begins, leads_apart, one_place, bits_join, cut_steps}
 use Rattle.jls_pixel.specs.Pixels.{IsRow, AreRows, rows_above, run_value, pixel_shape}
 use Rattle.jls_pixel.specs.Events.{Event, events_from, events, events_after}
 use Rattle.jls_pixel.specs.Code.{event_bits, bits_of_events, pixel_code}
@@ -19,11 +20,6 @@ use Rattle.jls_pixel.specs.Heads.{IsCutCode, IsCutEvent, BeginsWithFirst, IsHead
 use Rattle.jls_pixel.proofs.RowsGrow.{grown_full, grown_part, leads_append, rows_grow}
 use Rattle.jls_pixel.proofs.CodesApart.{code_is, codes_apart}
 use Rattle.jls_pixel.proofs.GrowthEnds.{added_within, some_next, growth_ends}
-
--- the first of some rows are rows
-all_prefix : (P : List (List ℕ) → Type 0) (xs ys : List (List (List ℕ))) → AllByRecursion P (xs ++ ys) → AllByRecursion P xs
-all_prefix P [] ys h = tt
-all_prefix P (x ∷ xs) ys h = (h.0, all_prefix P xs ys h.1)
 
 prefix_rows : (p : CodingParameters) (w c n : ℕ) (rows xs ys : List (List (List ℕ))) → AreRows p w c n rows → rows ≡ xs ++ ys
     → AreRows p w c (length xs) xs
@@ -52,7 +48,7 @@ bits_append p earlier (x ∷ xs) ys =
     ∙ sym (append_assoc (event_bits p earlier x) (bits_of_events p (earlier ++ x ∷ []) xs) (bits_of_events p (earlier ++ x ∷ xs) ys))
 
 -- the code of first rows begins the code
-code_parts : (p : CodingParameters) (w c : ℕ) (xs ys : List (List (List ℕ)))
+pub code_parts : (p : CodingParameters) (w c : ℕ) (xs ys : List (List (List ℕ)))
     → (tail : List Bool) × (pixel_code p w c (xs ++ ys) ≡ pixel_code p w c xs ++ tail)
 unfolding pixel_code
 code_parts p w c xs ys =
@@ -60,78 +56,6 @@ code_parts p w c xs ys =
       bits_of_events p (events w c xs) later,
       ap (bits_of_events p []) (events_append w c [] xs ys) ∙ bits_append p [] (events w c xs) later,
     )
-
--- Steps one after another -------------------------------------------------------------------------
-
-leads_apart : (m : StepwiseCode) (a b : List m.Event) (s z : m.State) → Leads m s (a ++ b) z
-    → (y : m.State) × (Leads m s a y × Leads m y b z)
-leads_apart m [] b s z l = (s, (refl, l))
-leads_apart m (e ∷ a) b s z l =
-    let r = leads_apart m a b (m.after s e) z l.1 in (r.0, ((l.0, r.1.0), r.1.1))
-
-one_place : (m : StepwiseCode) (a : List m.Event) (s y z : m.State) → Leads m s a y → Leads m s a z → y ≡ z
-one_place m [] s y z l k = sym l ∙ k
-one_place m (e ∷ a) s y z l k = one_place m a (m.after s e) y z l.1 k.1
-
-bits_join : (m : StepwiseCode) (a b : List m.Event) (s y : m.State) → Leads m s a y
-    → bits_of_steps m s (a ++ b) ≡ bits_of_steps m s a ++ bits_of_steps m y b
-bits_join m [] b s y l = ap (λ v. bits_of_steps m v b) l
-bits_join m (e ∷ a) b s y l =
-    ap (λ v. m.step_bits s e ++ v) (bits_join m a b (m.after s e) y l.1)
-    ∙ sym (append_assoc (m.step_bits s e) (bits_of_steps m (m.after s e) a) (bits_of_steps m y b))
-
-pub nothing_is : (xs : List Bool) (y : Bool) (ys : List Bool) → xs ++ y ∷ ys ≡ [] → ⊥
-nothing_is [] y ys h = cc
-nothing_is (x ∷ xs) y ys h = cc
-
--- whole first events, and a proper prefix of the bits of the one after them
-record CutSteps (m : StepwiseCode) (s : m.State) (given : List Bool) : Type 0 where
-  whole : List m.Event
-  state : m.State
-  leads : Leads m s whole state
-  cut : m.Event
-  next : m.Next state cut
-  begun : List Bool
-  given_is : given ≡ bits_of_steps m s whole ++ begun
-  missing : Bool
-  more_missing : List Bool
-  bits_are : m.step_bits state cut ≡ begun ++ missing ∷ more_missing
-
--- a proper prefix of the bits of some events cuts one of them
-cut_steps : (m : StepwiseCode) (s y : m.State) (fs : List m.Event) (given : List Bool) (b : Bool) (more : List Bool) → Leads m s fs y
-    → given ++ b ∷ more ≡ bits_of_steps m s fs → CutSteps m s given
-cut_steps m s y [] given b more l e = absurd (nothing_is given b more e)
-cut_steps m s y (f ∷ fs) given b more l e =
-    elim (one_begins given (b ∷ more) (m.step_bits s f) (bits_of_steps m (m.after s f) fs) e) [
-      | inl q ↦ (let r = cut_steps m (m.after s f) y fs q.0 b more l.1 q.2 in
-          record {
-            whole = f ∷ r.whole;
-            state = r.state;
-            leads = (l.0, r.leads);
-            cut = r.cut;
-            next = r.next;
-            begun = r.begun;
-            given_is = q.1
-                ∙ ap (λ v. m.step_bits s f ++ v) r.given_is
-                ∙ sym (append_assoc (m.step_bits s f) (bits_of_steps m (m.after s f) r.whole) r.begun);
-            missing = r.missing;
-            more_missing = r.more_missing;
-            bits_are = r.bits_are;
-          })
-      | inr q ↦
-          record {
-            whole = [];
-            state = s;
-            leads = refl;
-            cut = f;
-            next = l.0;
-            begun = given;
-            given_is = refl;
-            missing = q.1;
-            more_missing = q.0;
-            bits_are = q.2;
-          }
-    ]
 
 -- Rows as they grow ---------------------------------------------------------------------------------
 
@@ -372,12 +296,6 @@ module _ (p : CodingParameters) (w c : ℕ) (some : 0 < w) where
 
 -- One head ------------------------------------------------------------------------------------------
 
-take_drop : (n : ℕ) (xs : List (List (List ℕ))) → n ≤ length xs
-    → (prefix : List (List (List ℕ))) × (back : List (List (List ℕ))) × (xs ≡ prefix ++ back) × (length prefix ≡ n)
-take_drop zero xs h = ([], xs, refl, refl)
-take_drop (suc n) [] h = absurd (omega arith)
-take_drop (suc n) (x ∷ xs) h = let r = take_drop n xs (omega arith) in (x ∷ r.0, r.1, ap (λ z. x ∷ z) r.2, ap suc r.3)
-
 module _ (p : CodingParameters) (w c n : ℕ) (ok : AreCodingParameters p) (some : 0 < w) (given : List Bool) where
   -- the rows that stand whole are the first of all rows in whose code the bits are cut
   first_of_others : (a b : IsCutCode (pixel_shape p w c n) given) (xs : List (List (List ℕ)))
@@ -386,7 +304,7 @@ module _ (p : CodingParameters) (w c n : ℕ) (ok : AreCodingParameters p) (some
   first_of_others a b xs f =
       let l = length-append xs f.others in let l1 = ap length f.rows_are in let l2 = b.are_rows.count_is in
       let l3 = a.are_rows.count_is in
-      let t = take_drop (length xs) a.rows (omega (arith, l, l1, l2, l3)) in
+      let t = first_items (length xs) a.rows (omega (arith, l, l1, l2, l3)) in
       let more = a.missing ∷ a.more_missing in
       let parts = code_parts p w c t.0 t.1 in
       let bits_are : pixel_code p w c xs ++ (f.unread ++ more) ≡ pixel_code p w c t.0 ++ parts.0 =
@@ -419,6 +337,6 @@ read_has_none p w c n ok some piece xs head r (inl (whole, inl (cut, f))) =
     sym (append_assoc (pixel_code p w c xs) r.unread more)
     ∙ ap (λ v. v ++ more) (sym r.begins.data_bits.read) ∙ cut.code_is ∙ sym (append-nil (pixel_code p w c cut.rows)) in
     let same = codes_apart p w c n ok some xs cut.rows (r.unread ++ more) [] r.begins.are_rows cut.are_rows e in
-    absurd (nothing_is r.unread cut.missing cut.more_missing same.1)
+    absurd (not_empty r.unread cut.missing cut.more_missing same.1)
 read_has_none p w c n ok some piece xs head r (inl (whole, inr (none, e))) = e
 read_has_none p w c n ok some piece xs head r (inr (none, e)) = e

@@ -1,11 +1,10 @@
 -- A row that is read, event by event.
 use Rattle.std.proofs.Common.{◌≡◌, ℕ, ◌<◌, ◌≤◌, Bool, List, [], ◌∷◌, ◌++◌, length, refl, sym, ap, ◌∙◌, subst, append_assoc}
 use Rattle.std.specs.List.{AllByRecursion}
-use Rattle.std.proofs.lemmas.List.{append-nil}
 use Rattle.jls_values.specs.Params.{CodingParameters, AreCodingParameters}
 use Rattle.jls_context.specs.Variables.{Variables, initial_variables}
 use Rattle.jls_interval.specs.Stepwise.{StepwiseCode, Leads, bits_of_steps}
-use Rattle.jls_interval.proofs.StepwiseCodes.{leads_more, refused}
+use Rattle.jls_interval.proofs.StepwiseCodes.{leads_more, refused, bits_more}
 use Rattle.jls_pixel.specs.Pixels.{IsPixel, AreRows, RowsAbove, rows_above, row_back, pixel_neighbours}
 use Rattle.jls_pixel.specs.Events.{Event, events}
 use Rattle.jls_pixel.specs.Code.{event_bits, pixel_code}
@@ -19,14 +18,6 @@ use Rattle.jls_pixel.proofs.RowsGrow.{grown_full, grown_part, rows_grow}
 use Rattle.jls_pixel.proofs.CodesApart.{kept, code_is, finished}
 use Rattle.jls_pixel.proofs.GrowthEnds.{parted_from, parted_pixels, some_next, all_rows}
 use Rattle.jls_pixel.proofs.CellSteps.{after_start}
-
--- the bits of one event more
-steps_more : (m : StepwiseCode) (s z : m.State) (es : List m.Event) (e : m.Event) → Leads m s es z
-    → bits_of_steps m s (es ++ e ∷ []) ≡ bits_of_steps m s es ++ m.step_bits z e
-steps_more m s z [] e l = append-nil (m.step_bits s e) ∙ ap (λ v. m.step_bits v e) l
-steps_more m s z (x ∷ es) e l =
-    ap (λ v. m.step_bits s x ++ v) (steps_more m (m.after s x) z es e l.1)
-    ∙ sym (append_assoc (m.step_bits s x) (bits_of_steps m (m.after s x) es) (m.step_bits z e))
 
 module _ (p : CodingParameters) (w c n : ℕ) (some : 0 < w) (given : List Bool) where
   abbrev m : StepwiseCode
@@ -68,7 +59,7 @@ module _ (p : CodingParameters) (w c n : ℕ) (some : 0 < w) (given : List Bool)
                 (leads_more m start (at rows row t.earlier) t.earlier y.event leads_here (unfinished, y.fits));
             bits_are = t.bits_are ∙ ap (λ z. bits_of_steps m start t.earlier ++ z) y.bits_are
                 ∙ sym (append_assoc (bits_of_steps m start t.earlier) (event_bits p t.earlier y.event) left')
-                ∙ ap (λ z. z ++ left') (sym (steps_more m start (at rows row t.earlier) t.earlier y.event leads_here));
+                ∙ ap (λ z. z ++ left') (sym (bits_more m start (at rows row t.earlier) t.earlier y.event leads_here));
             is_after = y.is_after;
           }
 

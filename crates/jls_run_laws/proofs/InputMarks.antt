@@ -5,10 +5,10 @@ use Rattle.std.proofs.lemmas.Bool.{or_left, or_right}
 use Rattle.jls_values.specs.OrderedSet as set
 use Rattle.jls_values.specs.OrderedSetLaws.{contains-union}
 use Rattle.jls_values.specs.Join.{join_all}
+use Rattle.jls_values.proofs.Tests.{either}
 use Rattle.jls_partial.specs.Reading.{Reading}
 use Rattle.jls_partial.specs.ReadingOrder.{reading_total, marks_total}
 use Rattle.jls_partial.specs.Partial.{PartialPicture, union}
-use Rattle.jls_partial.proofs.Unions.{either}
 use Rattle.jls_station.specs.Given.{Given, Gives, by_text, by_copy, GivesPartial}
 use Rattle.jls_marker.specs.SegmentLaws.{AreBytes}
 use Rattle.jls_salvage_run.specs.AllInputs.{IsUnionOf}

@@ -5,12 +5,13 @@ use Rattle.std.specs.Prelude.{get_or, slice_get}
 use Rattle.std.specs.List.{list_any, AllByRecursion}
 use Rattle.std.specs.Ordering.{eq_by_cmp}
 use Rattle.jls_values.specs.OrderedSet as set
+use Rattle.jls_values.proofs.Tests.{either}
 use Rattle.jls_partial.specs.Partial.{PartialPicture, readings_at, IsFitting}
 use Rattle.jls_partial.specs.Reading.{Reading, reading_of, reading_cmp}
 use Rattle.jls_partial.specs.ReadingOrder.{same_reading}
 use Rattle.jls_partial.proofs.BareEntries.{line_of_fit}
 use Rattle.jls_partial.proofs.Marked.{got_held}
-use Rattle.jls_partial.proofs.Unions.{either, in_its_line}
+use Rattle.jls_partial.proofs.Unions.{in_its_line}
 use Rattle.jls_copy.specs.CopyReads.{CopyReadsUnder}
 use Rattle.jls_copy.specs.Prefixes.{CourseHasReading, PrefixesKeepReadingsUnder}
 use Rattle.jls_copy.specs.ReadCopy.{ReadCopy}

@@ -6,10 +6,11 @@ use Rattle.std.specs.List.{list_any, AllByRecursion, Contains}
 use Rattle.std.specs.Ordering.{eq_by_cmp}
 use Rattle.std.proofs.lemmas.List.Elements.{Contains-append_right}
 use Rattle.jls_values.specs.OrderedSet as set
+use Rattle.jls_values.proofs.Tests.{either}
 use Rattle.jls_partial.specs.Partial.{readings_at}
 use Rattle.jls_partial.specs.Reading.{Reading, reading_of, reading_cmp}
 use Rattle.jls_partial.specs.ReadingOrder.{same_reading}
-use Rattle.jls_partial.proofs.Unions.{either, in_its_line}
+use Rattle.jls_partial.proofs.Unions.{in_its_line}
 use Rattle.jls_copy.specs.Course.{Course}
 use Rattle.jls_marker.specs.declared.profile.Profile.TheVariants.{Wide}
 use Rattle.jls_copy.specs.Prefixes.{CourseHasReading, PrefixesKeepReadingsUnder}

@@ -24,8 +24,8 @@ pub record HaveSameSize (s t : PictureShape) : Type 0 where
   pub height_is : s.height ≡ t.height
   pub components_are : length s.ids ≡ length t.ids
 
--- The file has no fault. It is read under the wide profile, by line and by sample. It gives each line of the picture, and no other line. Its
--- precision may be another
+-- The file has no fault. It is read under the wide profile, by line and by sample. It gives each line of the picture, and no other line.
+-- Its precision may be another
 pub record ReadsAs (p : PartialPicture) (file : List ℕ) : Type 0 where
   pub are_bytes : AllByRecursion (λ b. b < 256) file
   pub faultless : IsFaultless file

@@ -1,6 +1,6 @@
 -- Lists: their members, what holds of each of them, and what one number or piece more adds.
-use Rattle.std.proofs.Common.{◌≡◌, ℕ, zero, suc, ◌+◌, ◌-◌, ◌<◌, ◌≤◌, List, [], ◌∷◌, ◌++◌, map, refl, sym, ap, ◌∙◌, subst, append_assoc}
-use Rattle.std.proofs.Common.{arith, ◌⊎◌, inl, inr}
+use Rattle.std.proofs.Common.{◌≡◌, ℕ, zero, suc, ◌+◌, ◌-◌, ◌<◌, ◌≤◌, List, [], ◌∷◌, ◌++◌, length, map, refl, sym, ap, ◌∙◌, subst}
+use Rattle.std.proofs.Common.{append_assoc, arith, ◌⊎◌, inl, inr}
 use Rattle.std.proofs.Common.{add-one, add-zero}
 use Rattle.std.specs.Prelude.{get_or}
 use Rattle.std.specs.List.{All, AllByRecursion, Contains, flat_map, range_with_len}
@@ -23,6 +23,11 @@ module _ {X : Type 0} where
   pub first_or_rest : (x y : X) (xs : List X) → Contains (y ∷ xs) x → (y ≡ x) ⊎ Contains xs x
   first_or_rest x y xs (zero, l, e) = inl e
   first_or_rest x y xs (suc k, l, e) = inr (k, omega (arith, l), e)
+
+  -- a list with an item is not empty
+  pub not_empty : (xs : List X) (y : X) (ys : List X) → xs ++ y ∷ ys ≡ [] → ⊥
+  not_empty [] y ys e = cc
+  not_empty (x ∷ xs) y ys e = cc
 
 -- members of images and of joined lists
 pub in_map : {X Y : Type 0} (f : X → Y) (xs : List X) (x : X) → Contains xs x → Contains (map f xs) (f x)
@@ -54,6 +59,31 @@ of_flat_map f (x ∷ xs) y c =
       | inr later ↦ (let r = of_flat_map f xs y later in (r.0, in_rest r.0 x xs r.1, r.2))
     ]
 
+-- First items -------------------------------------------------------------------------------------------------------
+
+module _ {X : Type 0} where
+  -- a list is its first n items, and the others
+  pub first_items : (n : ℕ) (xs : List X) → n ≤ length xs
+      → (prefix : List X) × (back : List X) × (xs ≡ prefix ++ back) × (length prefix ≡ n)
+  first_items zero xs h = ([], xs, refl, refl)
+  first_items (suc n) [] h = absurd (omega (arith, h))
+  first_items (suc n) (x ∷ xs) h = let r = first_items n xs (omega (arith, h)) in (x ∷ r.0, r.1, ap (λ z. x ∷ z) r.2, ap suc r.3)
+
+  -- of two beginnings of one list, the longer one begins with the other
+  pub longer_begins : (a c s t : List X) → a ++ s ≡ c ++ t → length c ≤ length a → (x : List X) × (a ≡ c ++ x) × (x ++ s ≡ t)
+  longer_begins a [] s t e l = (a, refl, e)
+  longer_begins [] (y ∷ c) s t e l = absurd (omega (arith, l))
+  longer_begins (x ∷ a) (y ∷ c) s t e l =
+      let h : x ≡ y = cc in let r = longer_begins a c s t (cc) (omega (arith, l)) in (r.0, (let q = r.1 in cc), r.2)
+
+  -- two beginnings of one list that are as long are one
+  pub same_begin : (a c s t : List X) → a ++ s ≡ c ++ t → length a ≡ length c → (a ≡ c) × (s ≡ t)
+  same_begin [] [] s t e l = (refl, e)
+  same_begin [] (y ∷ c) s t e l = absurd (omega (arith, l))
+  same_begin (x ∷ a) [] s t e l = absurd (omega (arith, l))
+  same_begin (x ∷ a) (y ∷ c) s t e l =
+      let h : x ≡ y = cc in let r = same_begin a c s t (cc) (omega (arith, l)) in let r0 = r.0 in (cc, r.1)
+
 -- What holds of each -----------------------------------------------------------------------------------------------
 
 module _ {X : Type 0} where
@@ -62,6 +92,11 @@ module _ {X : Type 0} where
   all_at P [] x h c = absurd (none_in x c)
   all_at P (y ∷ ys) x h (zero, l, e) = subst P e h.0
   all_at P (y ∷ ys) x h (suc k, l, e) = all_at P ys x h.1 (k, omega (arith, l), e)
+
+  pub all_get : (P : X → Type 0) (xs : List X) (k : ℕ) (d : X) → k < length xs → AllByRecursion P xs → P (get_or xs k d)
+  all_get P [] k d l h = absurd (omega (arith, l))
+  all_get P (x ∷ xs) zero d l h = h.0
+  all_get P (x ∷ xs) (suc k) d l h = all_get P xs k d (omega (arith, l)) h.1
 
   pub all_append : (P : X → Type 0) (xs ys : List X) → AllByRecursion P xs → AllByRecursion P ys → AllByRecursion P (xs ++ ys)
   all_append P [] ys h k = k

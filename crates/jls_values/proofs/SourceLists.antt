@@ -1,8 +1,7 @@
 -- Lists of numbers in ascending order, and the sets that they are seen as.
 use Rattle.std.proofs.Common.{◌≡◌, ℕ, zero, suc, ◌^◌, ◌<◌, ◌≤◌, Bool, true, false, ◌||◌, List, [], ◌∷◌, ◌++◌, length, get_or, Ok, Err, refl}
 use Rattle.std.proofs.Common.{ap, sym, subst, ◌∙◌, arith, inl, inr}
-use Rattle.std.specs.declared.cmp.Ordering.{Ordering}
-use Rattle.std.specs.declared.cmp.Ordering.TheVariants.{Less, Equal, Greater}
+use Rattle.std.specs.declared.cmp.Ordering.TheVariants.{Less}
 use Rattle.std.specs.Cmp.{nat_cmp_is}
 use Rattle.std.specs.Ordering.{nat_cmp, eq_by_cmp, is_eq}
 use Rattle.std.specs.List.{list_any, insert, AllByRecursion}
@@ -18,6 +17,7 @@ use Rattle.jls_values.specs.OrderedSet as set
 use Rattle.jls_values.specs.OrderedSetLaws.{same_set, contains-insert, contains-insert_all, contains-from_list, contains-union}
 use Rattle.jls_values.specs.OrderedSetLaws.{insert_all-append}
 use Rattle.jls_values.proofs.Inserts.{all-insert, any-insert, none_at_gap}
+use Rattle.jls_values.proofs.Tests.{absorbed, tied}
 
 -- a list in ascending order
 abbrev pub Rises : List ℕ → Type 0
@@ -102,11 +102,6 @@ sources-insert xs i x lt g h =
 pub insert-there : (s : set.OrderedSet nat_cmp) (x : ℕ) → set.contains s x ≡ true → set.insert s x ≡ s
 insert-there s x h = same_set nat_cmp_total exact_unsigned _ _ (λ q. contains-insert nat_cmp_total s x q ∙ step q)
   where
-    tied : (r : Ordering) → is_eq r ≡ true → r ≡ Equal
-    tied Less e = absurd cc
-    tied Equal e = refl
-    tied Greater e = absurd cc
-
     step : (q : ℕ) → (eq_by_cmp nat_cmp q x || set.contains s q) ≡ set.contains s q
     step q =
         elim (eq_by_cmp nat_cmp q x) as (λ b. eq_by_cmp nat_cmp q x ≡ b → (b || set.contains s q) ≡ set.contains s q) [
@@ -136,7 +131,7 @@ prefix_between s xs ys all is = (
   same_set nat_cmp_total exact_unsigned _ _ (λ q.
       contains-union nat_cmp_total s (set.insert_all s xs) q
       ∙ ap (λ b. set.contains s q || b) (contains-insert_all nat_cmp_total s xs q)
-      ∙ absorb (set.contains s q) (list_any (eq_by_cmp nat_cmp q) xs)
+      ∙ absorbed (set.contains s q) (list_any (eq_by_cmp nat_cmp q) xs)
       ∙ sym (contains-insert_all nat_cmp_total s xs q)),
   ap (λ (zs : List ℕ). set.union (set.insert_all s xs) (set.insert_all s zs)) is
       ∙ ap (set.union (set.insert_all s xs)) (insert_all-append s xs ys)
@@ -144,11 +139,7 @@ prefix_between s xs ys all is = (
       let t = set.insert_all s xs in
       contains-union nat_cmp_total t (set.insert_all t ys) q
       ∙ ap (λ b. set.contains t q || b) (contains-insert_all nat_cmp_total t ys q)
-      ∙ absorb (set.contains t q) (list_any (eq_by_cmp nat_cmp q) ys)
+      ∙ absorbed (set.contains t q) (list_any (eq_by_cmp nat_cmp q) ys)
       ∙ sym (contains-insert_all nat_cmp_total t ys q))
       ∙ sym (insert_all-append s xs ys) ∙ ap (set.insert_all s) (sym is),
 )
-  where
-    absorb : (a b : Bool) → (a || (a || b)) ≡ (a || b)
-    absorb true b = refl
-    absorb false b = refl

@@ -1,8 +1,8 @@
-use Rattle.std.proofs.Common.{◌≡◌, ◌<◌, false, get_or, refl, sym, ap, ◌∙◌, arith}
-use Rattle.std.proofs.lemmas.Bool.{ne_eqb, lt-leb}
+use Rattle.std.proofs.Common.{◌≡◌, false, get_or, refl, arith}
 use Rattle.jls_bits.specs.Bits.{ends_data}
 use Rattle.jls_bits.proofs.DataBits.{whole_end}
-use Rattle.jls_held.proofs.WholeRows.{byte_more, after_another, below_markers}
+use Rattle.jls_bits.proofs.Unstuffing.{plain_goes}
+use Rattle.jls_held.proofs.WholeRows.{byte_more, below_markers}
 use Rattle.jls_held.proofs.code_ends.data_length.Goals as goal
 use Rattle.jls_held.proofs.code_ends.data_length.Goals.{else-before-via-then-before+else-byte-ge128, else-before-via-else-before}
 
@@ -16,7 +16,7 @@ loop-place-preserved c =
     let goes : ends_data l.before x ≡ false =
     elim c.else-before.branch [
       | else-before-via-then-before+else-byte-ge128 w ↦ below_markers l.before x (let t = w.if-byte-ge128.false in omega (arith, t))
-      | else-before-via-else-before w ↦ after_another l.before x (let t = w.if-before.false in (λ e. omega (arith, e, t)))
+      | else-before-via-else-before w ↦ plain_goes l.before x (let t = w.if-before.false in (λ e. omega (arith, e, t)))
     ] in
     let r = byte_more c.args.bytes.now l.place l.before x (let t = c.loop-place-test.true in omega (arith, t)) refl l.invariant.before_is
     l.invariant.whole goes in

@@ -3,7 +3,7 @@ use Rattle.std.proofs.lemmas.List.{append-nil, take_more, take_all}
 use Rattle.std.specs.List.{AllByRecursion}
 use Rattle.jls_bits.specs.Bits.{is_whole}
 use Rattle.jls_bits.proofs.Appending.{whole_prefix, bytes_append}
-use Rattle.jls_interval.proofs.Finishing.{all_bytes}
+use Rattle.jls_values.proofs.Lists.{all_bytes}
 use Rattle.jls_interval.proofs.interval_decoder.append_bytes.Goals as goal
 
 -- before the first byte nothing is appended
