@@ -19,7 +19,6 @@ use Rattle.jls_partial.proofs.TextLaws.{one_text, read_again}
 use Rattle.jls_copy.specs.Course.{Course, IsCourse, with_soi, with_another_marker, with_no_marker, with_fill_alone}
 use Rattle.jls_copy.specs.CopyReads.{CopyReads}
 use Rattle.jls_copy.specs.ReadCopy.{ReadCopy}
-use Rattle.jls_copy.specs.ScanData.{fill_bytes}
 use Rattle.jls_copy.proofs.BytesDecide.{bytes_decide}
 use Rattle.jls_copy.proofs.FinalEnds.{final_ends_stay}
 use Rattle.jls_copy.proofs.OneCourse.{one_course}
@@ -28,6 +27,7 @@ use Rattle.jls_io.specs.Event.{Event}
 use Rattle.jls_station.specs.Given.{Given, given_by_text, given_by_copy, Gives, by_text, by_copy, GivesPartial}
 use Rattle.jls_station.specs.Texts.{is_text}
 use Rattle.jls_station.specs.declared.input.ReadStop.TheVariants.{Whole}
+use Rattle.jls_station.proofs.TextsApart.{text_begins, no_text, filled_is_no_text}
 use Rattle.jls_salvage_run.specs.AllInputs.{partials, AreOfOneShape, IsUnionOf}
 use Rattle.jls_salvage_run.specs.CommandLaws.{HaveSameMembers, input_bytes, output_bytes}
 use Rattle.jls_salvage_run.proofs.InputBytes.{AreGiven, bytes_of_join}
@@ -72,17 +72,6 @@ calls_join_in_any_order call again e f =
     )
 
 -- What an input gives --------------------------------------------------------------------------------------------
-
-text_begins : (bytes : List ℕ) (p : PartialPicture) → IsTextOf bytes p → is_text bytes ≡ true
-text_begins bytes p is = ap is_text is.bytes_are
-
-no_text : {P : Type 0} (bytes : List ℕ) → is_text bytes ≡ false → is_text bytes ≡ true → P
-no_text bytes e f = (let d : false ≡ true = sym e ∙ f in absurd cc)
-
--- the first marker of a copy is SOI, with fill before it
-filled_is_no_text : (fill : ℕ) (bytes : List ℕ) → is_text (fill_bytes fill ++ 0xFF ∷ 0xD8 ∷ bytes) ≡ false
-filled_is_no_text zero bytes = refl
-filled_is_no_text (suc fill) bytes = refl
 
 framed_is_no_text : (bytes : List ℕ) (c : Course) (shape : PictureShape) → IsCourse bytes c → c.headers.frame ≡ Some shape
     → is_text bytes ≡ false

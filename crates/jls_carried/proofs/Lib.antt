@@ -1,4 +1,4 @@
 -- Lemmas of this crate.
-mod MappedLists
+pub mod MappedLists
 mod CodingNumbers
 pub mod CodingLineExamples

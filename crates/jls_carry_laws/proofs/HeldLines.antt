@@ -9,7 +9,6 @@ use Rattle.jls_partial.specs.Reading.{Reading}
 use Rattle.jls_marker.specs.Scan.{IsScan, first_row}
 use Rattle.jls_marker.specs.declared.profile.Profile.TheVariants.{Wide}
 use Rattle.jls_copy.specs.Course.{Course, IsCourseUnder}
-use Rattle.jls_copy.specs.Numbers.{Interval}
 use Rattle.jls_copy.specs.Pieces.{FoundPiece, pieces, placed, readings}
 use Rattle.jls_copy.specs.TellingLaws.{StandsAt, PiecesStandAtTheirOffsetsUnder}
 use Rattle.jls_copy.proofs.ScansOfCourse.{course_has}
@@ -25,6 +24,7 @@ use Rattle.jls_carry_laws.proofs.Walk.{AgreeFrom}
 use Rattle.jls_held.proofs.PieceChains.{placed_more}
 use Rattle.jls_carry_laws.proofs.OneCode.{rows_before, one_code}
 use Rattle.jls_carry_laws.proofs.PlacedLines.{begins_with_known}
+use Rattle.jls_carry_laws.proofs.SameHeads.{one_number}
 
 -- the bytes of what stands at an offset
 pub byte_at : (copy : List ℕ) (offset : ℕ) (bytes : List ℕ) (place : ℕ) → StandsAt copy offset bytes → place < length bytes
@@ -33,10 +33,6 @@ byte_at copy offset bytes place s l =
     ap (λ z. get_or z (offset + place) 0) s.copy_is
     ∙ ap (λ z. get_or (s.prefix ++ (bytes ++ s.back)) (z + place) 0) s.offset_is
     ∙ get_or-append-add s.prefix (bytes ++ s.back) place 0 ∙ get_or_append_left bytes s.back 0 place l
-
--- the number of an interval
-one_number : (j k : ℕ) → Interval j ≡ Interval k → j ≡ k
-one_number j k e = cc
 
 -- the piece of a true file that has the head of a mended file's piece
 pub record Fellow (picture : PictureLines) (f : MendedFile) (bytes : List ℕ) (p : PieceOf f) : Type 0 where

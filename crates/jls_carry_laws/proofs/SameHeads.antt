@@ -26,6 +26,10 @@ pub all_of : {X : Type 0} (P : X → Type 0) (xs : List X) → ((x : X) → Cont
 all_of P [] f = tt
 all_of P (x ∷ xs) f = (f x (is_first x xs), all_of P xs (λ y c. f y (in_rest y x xs c)))
 
+-- the number of an interval
+pub one_number : (j k : ℕ) → Interval j ≡ Interval k → j ≡ k
+one_number j k e = cc
+
 module _ (picture : PictureLines) where
   abbrev pub IsTrue : FoundPiece → Type 0
   IsTrue q = (k : ℕ) × IsTruePiece picture q k
@@ -62,14 +66,11 @@ module _ (picture : PictureLines) where
       ap (λ z. z ∷ xs) h ∙ ap (λ z. y ∷ z) (same_lines cs (if (place + 1 == length cs) then row + 1 else row)
       (if (place + 1 == length cs) then 0 else place + 1) xs ys a.1 b.1 (omega (arith, l)))
 
-  number_is : (j k : ℕ) → Interval j ≡ Interval k → j ≡ k
-  number_is j k e = cc
-
   -- two pieces of one interval are equally long
   pub true_length : (s : Scan) (number : PieceNumber) (p q : FoundPiece) → p.plan ≡ s → q.plan ≡ s → p.number ≡ number
       → q.number ≡ number → IsPiece p.bytes → IsPiece q.bytes → IsTrue p → IsTrue q → length p.bytes ≡ length q.bytes
   true_length s number p q ep eq np nq ip iq (j, a) (k, b) =
-      let jk : k ≡ j = number_is k j (sym b.number_is ∙ nq ∙ sym np ∙ a.number_is) in
+      let jk : k ≡ j = one_number k j (sym b.number_is ∙ nq ∙ sym np ∙ a.number_is) in
       let plan : q.plan ≡ p.plan = eq ∙ sym ep in
       let b0 : Reads (interval_of p.plan j) q.bytes b.lines =
       subst (λ n. Reads (interval_of p.plan n) q.bytes b.lines) jk (subst (λ v. Reads (interval_of v k) q.bytes b.lines) plan b.reads) in
@@ -88,7 +89,7 @@ abbrev pub Agree : List FoundPiece → ℕ → ℕ → List ℕ → List ℕ →
 Agree ps at end xs ys = (k : ℕ) → at + k < end → ((p : FoundPiece) → Contains ps p → IsIn p (at + k) → ⊥)
     → (k < length ys) × (get_or xs k 0 ≡ get_or ys k 0)
 
-pub same_front : (us xs ys : List ℕ) → ((k : ℕ) → k < length us → (k < length ys) × (get_or (us ++ xs) k 0 ≡ get_or ys k 0))
+same_front : (us xs ys : List ℕ) → ((k : ℕ) → k < length us → (k < length ys) × (get_or (us ++ xs) k 0 ≡ get_or ys k 0))
     → (zs : List ℕ) × (ys ≡ us ++ zs)
 same_front [] xs ys h = (ys, refl)
 same_front (u ∷ us) xs [] h = absurd (let l = (h 0 (omega arith)).0 in omega (arith, l))
@@ -96,6 +97,13 @@ same_front (u ∷ us) xs (y ∷ ys) h =
     let e : u ≡ y = (h 0 (omega arith)).1 in
     let r = same_front us xs ys (λ k l. let n = h (suc k) (omega (arith, l)) in (let n0 = n.0 in omega (arith, n0), n.1)) in
     (r.0, ap (λ z. z ∷ ys) (sym e) ∙ ap (λ z. u ∷ z) r.1)
+
+-- bytes before all pieces are the same
+pub first_bytes : (earlier : List FoundPiece) (at end : ℕ) (us xs ys : List ℕ) → Agree earlier at end (us ++ xs) ys
+    → at + length us ≤ end → ((q : FoundPiece) → Contains earlier q → at + length us ≤ q.offset) → (zs : List ℕ) × (ys ≡ us ++ zs)
+first_bytes earlier at end us xs ys h before beyond =
+    same_front us xs ys (λ k l. h k (omega (arith, l, before)) (λ q c inside.
+    let b = beyond q c in let i = inside.0 in omega (arith, b, i, l)))
 
 pub agree_on : (ps : List FoundPiece) (at end : ℕ) (us vs xs ys : List ℕ) → length us ≡ length vs → Agree ps at end (us ++ xs) (vs ++ ys)
     → Agree ps (at + length us) end xs ys

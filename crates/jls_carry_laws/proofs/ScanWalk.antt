@@ -12,7 +12,7 @@ use Rattle.jls_copy.specs.Course.{BeginsWithEnd}
 use Rattle.jls_copy.specs.Pieces.{FoundPiece, pieces_from, piece_begun}
 use Rattle.jls_copy.proofs.OneCut.{no_mark}
 use Rattle.jls_carry_laws.specs.TrueFiles.{PictureLines}
-use Rattle.jls_carry_laws.proofs.SameHeads.{IsTrue, true_length, Agree, same_front, agree_on, agree_less, one_mark, of_mark, from_offset}
+use Rattle.jls_carry_laws.proofs.SameHeads.{IsTrue, true_length, Agree, first_bytes, agree_on, agree_less, one_mark, of_mark, from_offset}
 
 -- what follows a scan in the first file: a marker that begins a segment, before all pieces after the scan
 pub record Follows (after : List FoundPiece) (xs : List ℕ) (stop : ℕ) : Type 0 where
@@ -70,13 +70,6 @@ module _ (picture : PictureLines) (index : ℕ) (s : Scan) where
   first_is last number at (d ∷ closed) bytes p a b c =
       (found number at d.piece, is_first _ _, record { plan = sym a; number = sym b; offset = sym c })
 
-  -- bytes after a piece, before all other pieces, are the same
-  pub same_after : (earlier : List FoundPiece) (at end : ℕ) (us xs ys : List ℕ) → Agree earlier at end (us ++ xs) ys
-      → at + length us ≤ end → ((q : FoundPiece) → Contains earlier q → at + length us ≤ q.offset) → (zs : List ℕ) × (ys ≡ us ++ zs)
-  same_after earlier at end us xs ys h before beyond =
-      same_front us xs ys (λ k l. h k (omega (arith, l, before)) (λ q c inside.
-      let b = beyond q c in let i = inside.0 in omega (arith, b, i, l)))
-
   -- what follows the last piece of a scan in the first file, stands behind that piece in the second
   after_last : (after earlier later : List FoundPiece) (p : FoundPiece) (stop : ℕ) (xs ys : List ℕ) → after ≡ earlier ++ p ∷ later
       → (w : Follows after xs stop) → Agree earlier stop p.offset xs ys → (zs : List ℕ) × (ys ≡ fill_bytes w.fill ++ (255 ∷ w.code ∷ zs))
@@ -84,7 +77,7 @@ module _ (picture : PictureLines) (index : ℕ) (s : Scan) where
       let us = fill_bytes w.fill ++ (255 ∷ w.code ∷ []) in
       let whole : xs ≡ us ++ w.following = w.xs_are ∙ sym (append_assoc (fill_bytes w.fill) (255 ∷ w.code ∷ []) w.following) in
       let here : Contains after p = subst (λ z. Contains z p) (sym is) (Contains-append_right earlier (p ∷ later) p (is_first p later)) in
-      let r = same_after earlier stop p.offset us w.following ys (subst (λ z. Agree earlier stop p.offset z ys) whole h) (w.beyond p here)
+      let r = first_bytes earlier stop p.offset us w.following ys (subst (λ z. Agree earlier stop p.offset z ys) whole h) (w.beyond p here)
       (λ q c. w.beyond q (subst (λ z. Contains z q) (sym is) (Contains-append_left earlier (p ∷ later) q c))) in
       (r.0, r.1 ∙ append_assoc (fill_bytes w.fill) (255 ∷ w.code ∷ []) r.0)
 
@@ -126,7 +119,7 @@ module _ (picture : PictureLines) (index : ℕ) (s : Scan) where
       let a2 = agree_less q earlier (at + length c.piece) p.offset (us ++ rest) ys (omega (arith, o1, o2)) a1 in
       let here : at' ≤ p.offset =
       beyond p (subst (λ z. Contains z p) (sym is) (Contains-append_right earlier (p ∷ later) p (is_first p later))) in
-      let r = same_after earlier (at + length c.piece) p.offset us rest ys a2 (omega (arith, here, size))
+      let r = first_bytes earlier (at + length c.piece) p.offset us rest ys a2 (omega (arith, here, size))
       (λ v among. let b = beyond v (subst (λ z. Contains z v) (sym is) (Contains-append_left earlier (p ∷ later) v among)) in
       omega (arith, b, size)) in
       let a3 = agree_on earlier (at + length c.piece) p.offset us us rest r.0 refl

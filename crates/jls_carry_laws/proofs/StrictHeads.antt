@@ -17,19 +17,19 @@ use Rattle.jls_copy.proofs.OneCut.{no_mark}
 use Rattle.jls_carry_laws.specs.StrictlyHeld.{IsIn}
 use Rattle.jls_carry_laws.specs.TrueFiles.{PictureLines, PieceHead}
 use Rattle.jls_carry_laws.specs.Laws.{StrictlyHeldLinesAreThePicture}
-use Rattle.jls_carry_laws.proofs.SameHeads.{IsTrue, all_true, all_of, Agree, agree_on, one_mark}
-use Rattle.jls_carry_laws.proofs.UnitsWalk.{Ended, first_bytes, in_offset, units_walk}
+use Rattle.jls_carry_laws.proofs.SameHeads.{IsTrue, all_true, all_of, Agree, first_bytes, agree_on, one_mark}
+use Rattle.jls_carry_laws.proofs.UnitsWalk.{Ended, in_offset, units_walk}
 use Rattle.jls_carry_laws.proofs.HeldLines.{StrictPiecesHaveHeads, strictly_held_from_heads}
 
 fills_length : (n : ℕ) → length (fill_bytes n) ≡ n
 fills_length zero = refl
 fills_length (suc n) = ap suc (fills_length n)
 
-no_first : (n b : ℕ) (more rest : List ℕ) → b ≢ 255 → b ∷ more ≡ fill_bytes n ++ (255 ∷ rest) → ⊥
+pub no_first : (n b : ℕ) (more rest : List ℕ) → b ≢ 255 → b ∷ more ≡ fill_bytes n ++ (255 ∷ rest) → ⊥
 no_first zero b more rest ne e = let f : b ≡ 255 = cc in ne f
 no_first (suc n) b more rest ne e = let f : b ≡ 255 = cc in ne f
 
-not_soi : (code : ℕ) → code ≡ 216 → code ≢ 255
+pub not_soi : (code : ℕ) → code ≡ 216 → code ≢ 255
 not_soi code is e = omega (arith, is, e)
 
 zero_more : (k : ℕ) → k ≡ 0 + k
@@ -61,7 +61,7 @@ module _ (picture : PictureLines) where
       let agree0 : Agree earlier 0 p.offset (us ++ bytes) ys = subst (λ z. Agree earlier 0 p.offset z ys) whole agree in
       let low : (q : FoundPiece) → Contains (pieces_in 0 (n + 2) units) q → 0 + length us ≤ q.offset = λ q m.
       let l = in_offset 0 (n + 2) units q m in omega (arith, l, size) in
-      let r = first_bytes picture earlier 0 p.offset us bytes ys agree0
+      let r = first_bytes earlier 0 p.offset us bytes ys agree0
       (low p (subst (λ z. Contains z p) (sym is) (Contains-append_right earlier (p ∷ later) p (is_first p later))))
       (λ q m. low q (subst (λ z. Contains z q) (sym is) (Contains-append_left earlier (p ∷ later) q m))) in
       let s = second n r.0 ys d (r.1 ∙ append_assoc (fill_bytes n) (255 ∷ 216 ∷ []) r.0) other in

@@ -19,7 +19,7 @@ use Rattle.jls_copy.specs.declared.end.End.{End}
 use Rattle.jls_copy.proofs.OneCut.{no_mark, one_cut}
 use Rattle.jls_copy.proofs.OneCourse.{one_unit, no_unit_at_end}
 use Rattle.jls_carry_laws.specs.TrueFiles.{PictureLines}
-use Rattle.jls_carry_laws.proofs.SameHeads.{IsTrue, Agree, same_front, agree_on, from_offset}
+use Rattle.jls_carry_laws.proofs.SameHeads.{IsTrue, Agree, first_bytes, agree_on, from_offset}
 use Rattle.jls_carry_laws.proofs.ScanWalk.{Follows, Closes, SameHead, scan_walk, end_not_ff}
 
 -- the segment of a unit
@@ -99,7 +99,7 @@ nothing_dropped (by_input n) rest e b =
     (sym (append-nil (fill_bytes n)) ∙ ap (λ z. fill_bytes n ++ z) (sym e) ∙ b.bytes_are))
 nothing_dropped by_marker rest c b = refl
 
-unit_not_empty : (u : CopyUnit) (r : List ℕ) → [] ≡ unit_bytes u ++ r → ⊥
+pub unit_not_empty : (u : CopyUnit) (r : List ℕ) → [] ≡ unit_bytes u ++ r → ⊥
 unit_not_empty (segment fill code payload) r e =
     let a = ap length e in let b = length-append (segment_unit_bytes fill code payload) r in
     let c = length-append (fill_bytes fill) (255 ∷ code ∷ (length payload + 2) / 256 ∷ (length payload + 2) % 256 ∷ payload) in
@@ -176,13 +176,6 @@ module _ (picture : PictureLines) where
 
   abbrev pub Ended : List FoundPiece → FoundPiece → Type 0
   Ended theirs p = (q : FoundPiece) × Contains theirs q × SameHead q p
-
-  -- bytes before all pieces are the same
-  pub first_bytes : (earlier : List FoundPiece) (at end : ℕ) (us xs ys : List ℕ) → Agree earlier at end (us ++ xs) ys
-      → at + length us ≤ end → ((q : FoundPiece) → Contains earlier q → at + length us ≤ q.offset) → (zs : List ℕ) × (ys ≡ us ++ zs)
-  first_bytes earlier at end us xs ys h before beyond =
-      same_front us xs ys (λ k l. h k (omega (arith, l, before)) (λ q c inside.
-      let b = beyond q c in let i = inside.0 in omega (arith, b, i, l)))
 
   part_one : (ps qs : List FoundPiece) → AllByRecursion (IsTrue picture) (ps ++ qs) → AllByRecursion (IsTrue picture) ps
   part_one [] qs h = tt

@@ -1,9 +1,11 @@
 -- The steps of an output, put together.
-use Rattle.std.proofs.Common.{◌≡◌, ℕ, List, [], ◌∷◌, ◌++◌, refl, sym, subst}
+use Rattle.std.proofs.Common.{◌≡◌, ℕ, List, [], ◌∷◌, ◌++◌, refl, sym, subst, inl}
 use Rattle.std.specs.Borrow.{Bor}
 use Rattle.jls_io.specs.Event.{Event, History, GrewBy, created, not_created}
 use Rattle.jls_io.specs.Writing.{WrotePrefix}
 use Rattle.jls_io.proofs.Growing.{grew_twice}
+use Rattle.jls_station.specs.Reading.{HadFailure}
+use Rattle.jls_station.proofs.FailedReads.{failed_right, prefix_failed}
 use Rattle.jls_cli.specs.Outcomes.{refusal_at}
 use Rattle.jls_cli.specs.Outputs.{StopsAtOutput, not_there, cut}
 use Rattle.jls_cli.specs.declared.outcome.Cause.TheVariants as cause
@@ -30,3 +32,8 @@ created_and_cut old mid new name bytes count =
     grew_after (WrotePrefix bytes count) (StopsAtOutput name.now bytes (refusal_at name (cause.NotWritten count))) old mid new
     (created name.now)
     (λ writes h. cut count writes refl refl h)
+
+-- where it stops, the device failed
+pub output_failed : (name bytes : List ℕ) (r : Refusal) (events : List Event) → StopsAtOutput name bytes r events → HadFailure events
+output_failed name bytes r _ (not_there _ _) = inl refl
+output_failed name bytes r _ (cut count writes _ _ h) = failed_right (created name ∷ []) writes (prefix_failed bytes count writes h)

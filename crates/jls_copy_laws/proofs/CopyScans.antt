@@ -11,6 +11,7 @@ use Rattle.jls_marker.specs.MarkerCodes.{sof55, sos, lse, dri, is_skipped, has_s
 use Rattle.jls_marker.specs.Scan.{Scan}
 use Rattle.jls_marker.specs.SegmentLaws.{AreBytes}
 use Rattle.jls_marker.specs.declared.profile.Profile.TheVariants.{Strict}
+use Rattle.jls_marker.proofs.HeaderSteps.{frame_stays}
 use Rattle.jls_marker.proofs.HeadersKept.{headers_kept, no_headers_kept}
 use Rattle.jls_marker.proofs.ProfileSteps.{profiles_stay}
 use Rattle.jls_copy.specs.ScanData.{fill_bytes}
@@ -86,11 +87,18 @@ unit_keeps h (scan fill code payload s closed last closing) after rest state low
     headers_kept h after code payload (Some s) state (scan_payload_bytes fill code payload (scan_data_bytes closed last closing) low) taken
 
 -- and their profile stays
-unit_keeps_profile : (h : HeaderState) (u : CopyUnit) (after : HeaderState) (rest : List ℕ) → IsUnit h u after rest
+pub unit_keeps_profile : (h : HeaderState) (u : CopyUnit) (after : HeaderState) (rest : List ℕ) → IsUnit h u after rest
     → after.profile ≡ h.profile
 unit_keeps_profile h (segment fill code payload) after rest (whole, taken) = profiles_stay h after code payload None taken
 unit_keeps_profile h (scan fill code payload s closed last closing) after rest (whole, taken, each, piece, following) =
     profiles_stay h after code payload (Some s) taken
+
+-- and a frame that was taken before it
+pub unit_keeps_frame : (h : HeaderState) (u : CopyUnit) (after : HeaderState) (rest : List ℕ) (f : PictureShape) → IsUnit h u after rest
+    → h.frame ≡ Some f → after.frame ≡ Some f
+unit_keeps_frame h (segment fill code payload) after rest f unit framed = frame_stays h after code payload None f unit.1 framed
+unit_keeps_frame h (scan fill code payload s closed last closing) after rest f unit framed =
+    frame_stays h after code payload (Some s) f unit.1 framed
 
 -- a unit that begins bytes consists of bytes, and so does what follows it
 pub unit_parts : (bytes rest : List ℕ) (u : CopyUnit) → AreBytes bytes → bytes ≡ unit_bytes u ++ rest

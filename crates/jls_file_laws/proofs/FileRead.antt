@@ -1,6 +1,7 @@
 -- A written file is read back, and what a reader of copies answers of it.
 use Rattle.std.proofs.Common.{◌≡◌, ℕ, List, [], ◌∷◌, ◌++◌, length, take, Option, Some, sym, ◌∙◌, ap, subst}
 use Rattle.std.proofs.lemmas.List.{append-nil}
+use Rattle.std.proofs.lemmas.Option.{same_Some}
 use Rattle.jls_values.specs.OrderedSet as set
 use Rattle.jls_values.specs.Shape.{PictureShape}
 use Rattle.jls_partial.specs.Reading.{Reading}
@@ -19,9 +20,6 @@ use Rattle.jls_file_laws.proofs.WrittenUnits.{reads_back}
 
 pub file_law : FileLaw
 file_law pic o can = (reads_back pic o can (heads_are_taken pic o can), intervals_cover pic o can.whole.shape.ids_at_least)
-
-one_shape : (s t : PictureShape) → ◌≡◌ {A = Option PictureShape} (Some s) (Some t) → s ≡ t
-one_shape s t e = cc
 
 without_head : (ps : List FoundPiece) (head : List (List ℕ)) (given rs : List Reading) → given ≡ rs → ps ≡ []
     → given ++ head_readings ps head ≡ rs
@@ -47,7 +45,7 @@ module _ (pic : WholePicture) (copy : List ℕ) (rs : List Reading) (w : ReadsBa
 
   answers_only : AnswersOnly pic rs read
   answers_only = record {
-    shape = ap (λ (p : PartialPicture). p.shape) c.partial_is ∙ one_shape c.shape pic.shape framed;
+    shape = ap (λ (p : PartialPicture). p.shape) c.partial_is ∙ same_Some c.shape pic.shape framed;
     readings_are = subst (λ (t : List Reading). read.partial.readings ≡ set.insert_all set.empty t)
         (without_head (cut_pieces c.course) c.head (readings (pieces c.course) c.outcomes) rs gives.0 uncut)
         (ap (λ (p : PartialPicture). p.readings) c.partial_is);

@@ -24,13 +24,13 @@ use Rattle.jls_io.specs.Event.{Event, bytes_given}
 use Rattle.jls_station.specs.Given.{CopyReport, Given, Gives, by_text, by_copy, marked}
 use Rattle.jls_station.specs.Inputs.{IsCopyDone, IsEnough}
 use Rattle.jls_marker.specs.SegmentLaws.{AreBytes}
-use Rattle.jls_station.specs.Texts.{is_text}
 use Rattle.jls_station.specs.TakingCopies.{CopyGives, RefusesCopy, gives_none, other_shape, no_memory}
 use Rattle.jls_station.specs.declared.take_copy.TakeFault.{TakeFault}
 use Rattle.jls_station.specs.declared.take_copy.TakeFault.TheVariants as fault
 use Rattle.jls_copy_laws.specs.Gives.{GivesReading}
 use Rattle.jls_copy_laws.proofs.Members.{none_in, in_map, of_map, all_at, all_append, all_prefix}
 use Rattle.jls_station.proofs.ReadBytes.{all_reads}
+use Rattle.jls_station.proofs.TextsApart.{no_text, text_begins}
 use Rattle.jls_headline.specs.Stations.{HasShape, ReadingsOf, HoldsExactly, AreAmong, IsSameCopy}
 use Rattle.jls_headline.specs.Sources.{SourcedCopy, copies_of, HoldsExactlyUnder}
 use Rattle.jls_headline.specs.Sources.{sourced_copy}
@@ -47,9 +47,6 @@ use Rattle.jls_headline.proofs.Unions.{GivenBy, Holds, at_first, both_collected,
 use Rattle.jls_headline.proofs.Unions.{in_the_end}
 
 -- By induction over the calls ------------------------------------------------------------------------------------
-
-pub no_text : {P : Type 0} (bytes : List ℕ) → is_text bytes ≡ false → is_text bytes ≡ true → P
-no_text bytes e f = (let d : false ≡ true = sym e ∙ f in absurd cc)
 
 -- what is kept by these steps is kept by all calls
 module _ (known : Knowledge) (P : PartialPicture → List SourcedCopy → List SourcedCopy → Type 0)
@@ -100,7 +97,7 @@ module _ (known : Knowledge) (P : PartialPicture → List SourcedCopy → List S
   input_text : (p : PartialPicture) (source : Option ℕ) (given : Given) (bytes : List ℕ) → IsTextOf bytes p → Gives source bytes given
       → p ≡ given.partial
   input_text p _ _ _ is (by_text source bytes q is') = one_text bytes p q is is'
-  input_text p _ _ _ is (by_copy source bytes read stop none reads) = no_text bytes none (ap is_text is.bytes_are)
+  input_text p _ _ _ is (by_copy source bytes read stop none reads) = no_text bytes none (text_begins bytes p is)
 
   pub by_calls : (p : PartialPicture) (copies over : List SourcedCopy) → Collected known p copies over → P p copies over
   by_calls _ _ _ (is_known p copies h) = begins p copies h

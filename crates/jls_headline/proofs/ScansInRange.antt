@@ -1,16 +1,16 @@
 -- The frame of a copy is a shape, and each of its scans is in its ranges and of that frame.
-use Rattle.std.proofs.Common.{◌≡◌, ℕ, ◌<◌, List, [], ◌∷◌, Option, Some, None, sym, ap, subst, ◌∙◌}
+use Rattle.std.proofs.Common.{◌≡◌, ℕ, ◌<◌, List, [], ◌∷◌, Option, Some, sym, ap, subst, ◌∙◌}
 use Rattle.std.specs.List.{AllByRecursion, flat_map}
 use Rattle.jls_values.specs.Shape.{PictureShape, IsShape}
 use Rattle.jls_marker.specs.Scan.{IsScanOf}
 use Rattle.jls_marker.specs.HeaderState.{HeaderState, IsHeaderState, no_headers}
 use Rattle.jls_marker.specs.SegmentLaws.{AreBytes}
-use Rattle.jls_marker.proofs.HeaderSteps.{frame_stays, scans_begin, scans_are_in_range}
+use Rattle.jls_marker.proofs.HeaderSteps.{scans_begin, scans_are_in_range}
 use Rattle.jls_marker.proofs.HeadersKept.{no_headers_kept}
 use Rattle.jls_copy.specs.ScanData.{fill_bytes}
 use Rattle.jls_copy.specs.Course.{CopyUnit, segment, scan, unit_bytes, IsUnit}
 use Rattle.jls_copy_laws.specs.CopyScans.{AreCopyUnits, ScanWithData, scans_of_unit}
-use Rattle.jls_copy_laws.proofs.CopyScans.{unit_of_copy, unit_keeps, unit_parts, scan_payload_bytes}
+use Rattle.jls_copy_laws.proofs.CopyScans.{unit_of_copy, unit_keeps, unit_keeps_frame, unit_parts, scan_payload_bytes}
 use Rattle.jls_copy_laws.proofs.Members.{all_back, all_append}
 use Rattle.jls_headline.specs.ScanLaws.{IsScanUnder, ScansAreOfTheFrame}
 
@@ -20,21 +20,15 @@ some_frame f = Some f
 pub same_frame : (f g : PictureShape) → some_frame f ≡ Some g → f ≡ g
 same_frame f g e = cc
 
--- a unit leaves a frame that was taken before it
-frame_after : (h : HeaderState) (u : CopyUnit) (after : HeaderState) (rest : List ℕ) (f : PictureShape) → IsUnit h u after rest
-    → h.frame ≡ Some f → after.frame ≡ Some f
-frame_after h (segment fill code payload) after rest f unit framed = frame_stays h after code payload None f unit.1 framed
-frame_after h (scan fill code payload s closed last closing) after rest f unit framed =
-    frame_stays h after code payload (Some s) f unit.1 framed
-
--- and so do units
+-- units leave a frame that was taken before them
 frame_through : (units : List CopyUnit) (h : HeaderState) (bytes : List ℕ) (final : HeaderState) (f : PictureShape) → IsHeaderState h
     → AreBytes bytes → AreCopyUnits h bytes units final → h.frame ≡ Some f → final.frame ≡ Some f
 frame_through [] h bytes final f is low p framed = ap (λ (x : HeaderState). x.frame) p.0 ∙ framed
 frame_through (u ∷ units) h bytes final f is low (after, rest, whole, unit, p) framed =
     let parts = unit_parts bytes rest u low whole in
     let own = unit_of_copy h u after rest is parts.0 unit in
-    frame_through units after rest final f (unit_keeps h u after rest is parts.0 own) parts.1 p (frame_after h u after rest f own framed)
+    let there : after.frame ≡ Some f = unit_keeps_frame h u after rest f own framed in
+    frame_through units after rest final f (unit_keeps h u after rest is parts.0 own) parts.1 p there
 
 -- the scan of a unit, before units that leave a frame
 scan_is_under : (h : HeaderState) (u : CopyUnit) (after : HeaderState) (rest : List ℕ) (f : PictureShape) → IsHeaderState h

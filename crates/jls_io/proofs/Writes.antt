@@ -1,10 +1,11 @@
 -- Writes, one after the other.
 use Rattle.std.proofs.Common.{◌≡◌, ◌<◌, ℕ, ◌+◌, List, [], ◌∷◌, ◌++◌, length, take, refl, sym, subst, ap, ◌∙◌, append_assoc, arith}
+use Rattle.std.proofs.Common.{inl, inr}
 use Rattle.std.proofs.Math.Seq.{take-append-add}
 use Rattle.std.proofs.lemmas.List.{append-nil, length-append, take-append-le}
 use Rattle.jls_io.specs.Event.{Event, History, GrewBy, opened, not_opened, gave, read_failed, created, not_created, took, write_failed}
 use Rattle.jls_io.specs.Event.{bytes_taken}
-use Rattle.jls_io.specs.Writing.{Wrote, WrotePrefix}
+use Rattle.jls_io.specs.Writing.{AreWrites, Printed, Wrote, WrotePrefix}
 use Rattle.jls_io.proofs.Growing.{grew_not, grew_on}
 
 pub wrote_nothing : Wrote [] []
@@ -66,3 +67,15 @@ module _ (old mid new : History) where
 
 pub nothing_written : (h : History) → GrewBy (Wrote []) h h
 nothing_written h = grew_not (Wrote []) h wrote_nothing
+
+-- where there are no bytes, nothing is written
+none_written : (writes : List Event) → AreWrites writes → bytes_taken writes ≡ [] → writes ≡ []
+none_written [] h e = refl
+none_written (took [] ∷ more) h e = absurd (omega (arith, h.0))
+none_written (took (b ∷ bs) ∷ more) h e = absurd cc
+none_written (x ∷ more) h e = absurd h
+
+-- nor printed
+pub none_printed : (events : List Event) → Printed [] events → events ≡ []
+none_printed events (inl h) = none_written events h.are_writes h.they_took
+none_printed events (inr (count, h)) = let lt = h.not_all in absurd (omega (arith, lt))

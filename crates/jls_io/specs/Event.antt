@@ -1,5 +1,5 @@
 -- The history of a device: the events of its life, in their order.
-use Rattle.std.specs.Prelude.{◌≡◌, ℕ, ◌-◌, ◌^◌, Bool, true, false, List, [], ◌++◌, length, filter, min}
+use Rattle.std.specs.Prelude.{◌≡◌, ◌||◌, ℕ, ◌-◌, ◌^◌, Bool, true, false, List, [], ◌++◌, length, filter, min}
 use Rattle.std.specs.List.{flat_map, list_any}
 
 -- an input was opened or not, or an output created or not, by its name. A read with room for so many bytes gave these, or failed. A write
@@ -51,6 +51,10 @@ abbrev pub is_failed_opening : Event → Bool
 is_failed_opening (not_opened name) = true
 is_failed_opening (not_created name) = true
 is_failed_opening _ = false
+
+-- whether an event is something that was not opened or created, or a read or a write that failed
+abbrev pub is_failure : Event → Bool
+is_failure e = is_failed_opening e || (is_failed_read e || is_failed_write e)
 
 -- ---- what a history tells
 

@@ -9,7 +9,7 @@ use Rattle.jls_memory.specs.Held.{AreLonger}
 use Rattle.jls_memory.specs.Inputs.{Reads}
 use Rattle.jls_memory.specs.Outputs.{outputs_of, taken_first}
 use Rattle.jls_memory.proofs.Reading.{nothing_left, reads_on}
-use Rattle.jls_memory.proofs.Written.{last_is_longer, no_outputs, outputs_stay, outputs_then}
+use Rattle.jls_memory.proofs.Written.{last_is_longer, no_outputs, not_empty, outputs_stay, outputs_then}
 
 module _ (inputs : List File) (rest : List ℕ) (outputs : List File) (events : List Event) (h : IsKept inputs rest outputs events) where
   -- ---- reads
@@ -70,8 +70,4 @@ module _ (inputs : List File) (rest : List ℕ) (outputs : List File) (events : 
 
   -- a write that went well has an output
   pub some_output : (bytes : List ℕ) (outputs' : List File) → AreLonger bytes outputs outputs' → list_any is_creation events ≡ false → ⊥
-  some_output bytes outputs' k e = not_last k.before k.last (sym (sym (no_outputs events e) ∙ (sym h.outputs_are ∙ k.old_are)))
-    where
-      not_last : (before : List File) (last : File) → before ++ last ∷ [] ≡ [] → ⊥
-      not_last [] last e = cc
-      not_last (f ∷ before) last e = cc
+  some_output bytes outputs' k e = not_empty k.before k.last (sym (sym (no_outputs events e) ∙ (sym h.outputs_are ∙ k.old_are)))

@@ -41,6 +41,10 @@ module _ (e : Event) (takes_none : taken_first (e ∷ []) ≡ []) where
 
 -- ---- a write that took these bytes
 
+pub not_empty : (before : List File) (last : File) → before ++ last ∷ [] ≡ [] → ⊥
+not_empty [] last e = cc
+not_empty (f ∷ before) last e = cc
+
 module _ (bytes : List ℕ) where
   -- where no output was created, they are taken first
   taken_more : (events : List Event) → outputs_of events ≡ [] → taken_first (events ++ took bytes ∷ []) ≡ taken_first events ++ bytes
@@ -82,10 +86,6 @@ module _ (bytes : List ℕ) where
   -- the last output holds them too
   abbrev longer : File → File
   longer f = record { name = f.name; bytes = f.bytes ++ bytes }
-
-  not_empty : (before : List File) (last : File) → before ++ last ∷ [] ≡ [] → ⊥
-  not_empty [] last e = cc
-  not_empty (f ∷ before) last e = cc
 
   pub last_is_longer : (events : List Event) (before : List File) (last : File) → outputs_of events ≡ before ++ last ∷ []
       → outputs_of (events ++ took bytes ∷ []) ≡ before ++ longer last ∷ []

@@ -19,7 +19,8 @@ use Rattle.jls_headline.specs.Stations.{HoldsExactly, AreAmong, IsSameCopy}
 use Rattle.jls_headline.specs.Sources.{SourcedCopy, sourced_copy, copies_of, IsSameUnder}
 use Rattle.jls_headline.specs.Collected.{Knowledge, of_readings, of_sources, Collected, reader_finished, text_back, partial_taken, CollectedFrom, CollectedUnder}
 use Rattle.jls_run_laws.specs.RunLaws.{DoneJoin, InputsStand, InputStandsFor, InputStandsUnder, RunsAreCollected, RunsAreCollectedUnder}
-use Rattle.jls_headline.proofs.Collected.{no_text, collected_holds, collected_aside}
+use Rattle.jls_station.proofs.TextsApart.{no_text}
+use Rattle.jls_headline.proofs.Collected.{collected_holds, collected_aside}
 use Rattle.jls_headline.proofs.SourcedStations.{among_aside}
 
 -- All inputs -----------------------------------------------------------------------------------------------------

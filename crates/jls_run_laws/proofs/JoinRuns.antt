@@ -1,16 +1,16 @@
 -- Whole runs of `join` whose inputs are copies.
-use Rattle.std.proofs.Common.{◌≡◌, ℕ, zero, suc, true, false, List, [], ◌∷◌, ◌++◌, map, Option, Some, refl, sym, ap, ◌∙◌, subst, inl}
+use Rattle.std.proofs.Common.{◌≡◌, ℕ, true, false, List, [], ◌∷◌, map, Option, Some, refl, sym, ap, ◌∙◌, subst, inl}
 use Rattle.std.specs.List.{AllByRecursion, Contains}
 use Rattle.jls_values.specs.OrderedSet as set
 use Rattle.jls_values.specs.Shape.{PictureShape}
 use Rattle.jls_partial.specs.Partial.{PartialPicture}
 use Rattle.jls_partial.specs.Text.{text}
 use Rattle.jls_write.specs.Picture.{WholePicture}
-use Rattle.jls_copy.specs.ScanData.{fill_bytes}
 use Rattle.jls_copy_laws.specs.CopyScans.{ScanWithData, HasScans}
 use Rattle.jls_copy_laws.proofs.CopyScans.{one_list_of_scans}
 use Rattle.jls_station.specs.Given.{marked}
 use Rattle.jls_station.specs.Texts.{is_text}
+use Rattle.jls_station.proofs.TextsApart.{filled_is_no_text}
 use Rattle.jls_salvage_run.specs.AllInputs.{partials, IsUnionOf}
 use Rattle.jls_salvage_run.specs.CommandLaws.{input_bytes, output_bytes}
 use Rattle.jls_headline.specs.Damaged.{Damaged}
@@ -76,11 +76,6 @@ runs_hold_exactly run none =
 pub runs_tell_of_lines : RunsTellOfLines
 runs_tell_of_lines run copies stand pic component line =
     stations_tell_of_lines pic run.joined copies (runs_are_collected run copies stand) component line
-
--- a copy's first marker is SOI, with fill before it
-filled_is_no_text : (fill : ℕ) (bytes : List ℕ) → is_text (fill_bytes fill ++ 0xFF ∷ 0xD8 ∷ bytes) ≡ false
-filled_is_no_text zero bytes = refl
-filled_is_no_text (suc fill) bytes = refl
 
 pub scans_are_no_text : (bytes : List ℕ) (shape : PictureShape) (scans : List ScanWithData) → HasScans bytes shape scans
     → is_text bytes ≡ false

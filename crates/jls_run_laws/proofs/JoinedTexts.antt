@@ -29,7 +29,7 @@ use Rattle.jls_copy_laws.proofs.Members.{is_first, in_rest, all_at}
 use Rattle.jls_headline.proofs.LostIntervals.{damaged_copies_give_no_other}
 use Rattle.jls_headline.proofs.Pictures.{heights}
 use Rattle.jls_headline.proofs.WrittenFiles.{component_at}
-use Rattle.jls_headline.proofs.Collected.{no_text}
+use Rattle.jls_station.proofs.TextsApart.{no_text}
 use Rattle.jls_copy.proofs.Fitting.{none_large}
 
 -- Lines of a picture fit its shape -------------------------------------------------------------------------------

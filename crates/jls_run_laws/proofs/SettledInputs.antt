@@ -26,7 +26,7 @@ use Rattle.jls_headline.specs.Damaged.{picture_reading, Survives}
 use Rattle.jls_headline.specs.ReadsAs.{GivesPicture}
 use Rattle.jls_headline.specs.Stations.{HasShape}
 use Rattle.jls_headline.proofs.Held.{is_at_line}
-use Rattle.jls_headline.proofs.Collected.{no_text}
+use Rattle.jls_station.proofs.TextsApart.{no_text}
 use Rattle.jls_run_laws.proofs.CollectedRuns.{given_holds, all_of_shape, given_in}
 use Rattle.jls_run_laws.proofs.JoinRuns.{scans_are_no_text, one_shape_of, handed_by}
 use Rattle.jls_headline.proofs.LostIntervals.{surviving_lines_are_given}

@@ -1,25 +1,18 @@
 -- What causes the exit status 4 of a run: a failure among its events.
-use Rattle.std.proofs.Common.{◌≡◌, ◌+◌, ◌⊎◌, inl, inr, ℕ, Bool, true, false, List, [], ◌∷◌, ◌++◌, Option, None, length}
-use Rattle.std.proofs.Common.{filter, sym, subst, ap, ◌∙◌, refl, arith}
-use Rattle.std.specs.Prelude.{◌||◌, All}
-use Rattle.std.specs.List.{list_any}
-use Rattle.std.proofs.lemmas.List.{length-append}
-use Rattle.std.proofs.lemmas.List.Elements.{All-cons, All-nil, filter-append}
-use Rattle.std.proofs.lemmas.List.Folds.{list_any-append}
-use Rattle.jls_io.specs.Event.{Event, opened, gave, read_failed, created, write_failed, is_read}
-use Rattle.jls_io.specs.Writing.{WrotePrefix}
+use Rattle.std.proofs.Common.{◌≡◌, ◌⊎◌, inl, inr, ℕ, Bool, true, false, List, [], ◌∷◌, ◌++◌, Option, None, refl, arith}
+use Rattle.std.specs.Prelude.{All}
+use Rattle.std.proofs.lemmas.List.Elements.{All-cons, All-nil}
+use Rattle.jls_io.specs.Event.{Event, opened}
 use Rattle.jls_station.specs.Given.{Given}
-use Rattle.jls_station.specs.Reading.{GoesOn, StopsWith, IsRead}
+use Rattle.jls_station.specs.Reading.{HadFailure, IsRead}
 use Rattle.jls_station.specs.Inputs.{IsEnough, IsRefused, no_text, no_picture, text_not_read, copy_not_read}
 use Rattle.jls_station.specs.Inputs.{ReadsRefuse, for_fault, for_memory}
 use Rattle.jls_salvage_run.specs.AllInputs.{IsTaken, TakesInTurn, StopsAt, not_there, refused, other_shape, no_memory}
 use Rattle.jls_salvage_run.specs.Joining as joining
 use Rattle.jls_salvage_run.specs.Joining.{Joins}
-use Rattle.jls_cli.specs.Outputs as outputs
-use Rattle.jls_cli.specs.Outputs.{StopsAtOutput}
 use Rattle.jls_cli.specs.Outcomes.{Outcome, exit_status, finished, status_of_cause, status_of_input}
 use Rattle.jls_station.specs.declared.input.ReadStop.{ReadStop}
-use Rattle.jls_station.specs.declared.input.ReadStop.TheVariants.{Whole, Failed, Turns}
+use Rattle.jls_station.specs.declared.input.ReadStop.TheVariants.{Whole}
 use Rattle.jls_station.specs.declared.input.InputFault.{InputFault}
 use Rattle.jls_cli.specs.declared.outcome.Refusal.{Refusal}
 use Rattle.jls_salvage_run.specs.Reporting as reporting
@@ -30,56 +23,12 @@ use Rattle.jls_salvage_run.specs.declared.writing.Format.{Format}
 use Rattle.jls_salvage_run.specs.declared.writing.Format.TheVariants.{Pnm, Jls}
 use Rattle.jls_cli.specs.SalvageAsking.{Asked, check, join, show, write_pnm, write_jls}
 use Rattle.jls_salvage_run.specs.Runs.{CameOf, Run, came_of, misused, helped, help_cut, nothing_begun, nothing_asked}
-use Rattle.jls_salvage_run.specs.Statuses.{is_failure, HadFailure, FailuresCauseStatus4}
+use Rattle.jls_salvage_run.specs.Statuses.{FailuresCauseStatus4}
+use Rattle.jls_cli.proofs.OutputSteps.{output_failed}
+use Rattle.jls_station.proofs.FailedReads.{failed_as, failed_left, failed_right, prefix_failed, read_in_part, whole_or_not}
 use Rattle.jls_salvage_run.proofs.Finished.{status_of_unsettled}
 
--- ---- failures among events
-
-or_left : (a b : Bool) → a ≡ true → (a || b) ≡ true
-or_left true b e = refl
-or_left false b e = absurd cc
-
-or_right : (a b : Bool) → b ≡ true → (a || b) ≡ true
-or_right true b e = refl
-or_right false b e = e
-
-reads_both : (a b : List Event) → length (filter is_read (a ++ b)) ≡ length (filter is_read a) + length (filter is_read b)
-reads_both a b = ap length (filter-append is_read a b) ∙ length-append (filter is_read a) (filter is_read b)
-
-failed_left : (a b : List Event) → HadFailure a → HadFailure (a ++ b)
-failed_left a b (inl e) = inl (list_any-append is_failure a b ∙ or_left (list_any is_failure a) (list_any is_failure b) e)
-failed_left a b (inr le) = inr (omega (arith, reads_both a b, le))
-
-failed_right : (a b : List Event) → HadFailure b → HadFailure (a ++ b)
-failed_right a b (inl e) = inl (list_any-append is_failure a b ∙ or_right (list_any is_failure a) (list_any is_failure b) e)
-failed_right a b (inr le) = inr (omega (arith, reads_both a b, le))
-
-failed_as : (a b : List Event) → a ≡ b → HadFailure b → HadFailure a
-failed_as a b e h = subst HadFailure (sym e) h
-
 -- ---- one input
-
-all_reads : (E : List ℕ → Type 0) (fed : List ℕ) (reads : List Event) → GoesOn E fed reads → length (filter is_read reads) ≡ length reads
-all_reads E fed [] h = refl
-all_reads E fed (gave room bytes ∷ more) h = let r = all_reads E (fed ++ bytes) more h.3 in omega (arith, r)
-all_reads E fed (e ∷ more) h = absurd h
-
-module _ (E : List ℕ → Type 0) where
-  last_failed : (bytes : List ℕ) (on last : List Event) (stop : ReadStop) → StopsWith E bytes last stop → (stop ≡ Whole → ⊥)
-      → GoesOn E [] on
-      → (stop ≡ Turns → length (on ++ last) ≡ 4294967295) → HadFailure (on ++ last)
-  last_failed bytes on last Whole h not g all = absurd (not refl)
-  last_failed bytes on [] Turns h not g all =
-      failed_left on [] (inr (let n = all refl in omega (arith, all_reads E [] on g, length-append on [], n)))
-  last_failed bytes on (read_failed ∷ []) Failed h not g all = failed_right on (read_failed ∷ []) (inl refl)
-  last_failed bytes on (read_failed ∷ []) stop h not g all = absurd h
-  last_failed bytes on (gave room [] ∷ []) stop h not g all = absurd h
-  last_failed bytes on last stop h not g all = absurd h
-
-  read_in_part : (reads : List Event) (bytes : List ℕ) (stop : ReadStop) → IsRead E reads bytes stop → (stop ≡ Whole → ⊥) → HadFailure reads
-  read_in_part reads bytes stop h not =
-      failed_as reads (h.on ++ h.last) h.reads_are
-      (last_failed bytes h.on h.last stop h.stops not h.goes_on (λ e. ap length (sym h.reads_are) ∙ h.used_up e))
 
 refused_failed : (bytes : List ℕ) (stop : ReadStop) (f : InputFault) (reads : List Event) → IsRead IsEnough reads bytes stop
     → IsRefused bytes stop f
@@ -107,11 +56,6 @@ taken_in_part source name g events h not =
     failed_as events (opened name ∷ h.reads) h.events_are
     (failed_right (opened name ∷ []) h.reads (read_in_part IsEnough h.reads h.give.bytes g.stop h.give.is_read not))
 
-whole_or_not : (stop : ReadStop) → (stop ≡ Whole) ⊎ (stop ≡ Whole → ⊥)
-whole_or_not Whole = inl refl
-whole_or_not Failed = inr (λ e. absurd cc)
-whole_or_not Turns = inr (λ e. absurd cc)
-
 -- one of some inputs was not read whole
 failed_in_turn : (source : Option ℕ) (names : List (List ℕ)) (givens : List Given) (events : List Event)
     → TakesInTurn source names givens events
@@ -126,18 +70,6 @@ failed_in_turn source (name ∷ names) (g ∷ givens) events h not =
     by_stop : ((All (λ x. x.stop ≡ Whole) givens → ⊥) → HadFailure h.1) → (g.stop ≡ Whole) ⊎ (g.stop ≡ Whole → ⊥) → HadFailure (h.0 ++ h.1)
     by_stop others (inl is) = failed_right h.0 h.1 (others (λ all. not (All-cons (λ (x : Given). x.stop ≡ Whole) g givens is all)))
     by_stop others (inr part) = failed_left h.0 h.1 (taken_in_part source name g h.0 h.3 part)
-
--- ---- outputs
-
-failed_at_output : (name bytes : List ℕ) (r : Refusal) (events : List Event) → StopsAtOutput name bytes r events → HadFailure events
-failed_at_output name bytes r _ (outputs.not_there _ _) = inl refl
-failed_at_output name bytes r _ (outputs.cut count writes _ _ h) =
-    failed_right (created name ∷ []) writes
-    (failed_as writes (h.writes ++ write_failed ∷ []) h.events_are (failed_right h.writes (write_failed ∷ []) (inl refl)))
-
-prefix_failed : (bytes : List ℕ) (count : ℕ) (events : List Event) → WrotePrefix bytes count events → HadFailure events
-prefix_failed bytes count events h =
-    failed_as events (h.writes ++ write_failed ∷ []) h.events_are (failed_right h.writes (write_failed ∷ []) (inl refl))
 
 -- ---- commands that end with 4
 
@@ -159,7 +91,7 @@ join_failed source out names _ events (joining.at_input _ _ _ r _ h) e =
 join_failed source out names _ events (joining.no_memory _ _ _ n p whole _ named h) e =
     absurd (omega (arith, e))
 join_failed source out names _ _ (joining.at_output _ _ _ r p whole reading written h stops) e =
-    failed_right reading written (failed_at_output _ _ r written stops)
+    failed_right reading written (output_failed _ _ r written stops)
 
 tell_failed : (traced : Bool) (name : List ℕ) (outcome : Outcome) (events reported : List Event)
     → PrintsReport (lines traced) name outcome events reported
@@ -175,7 +107,7 @@ tell_failed traced name _ events reported (reporting.not_printed _ n g count _ _
 file_failed : (F L : Type 0) (takes : Bool) (bytes : List ℕ) (r : Refusal) (events : List Event) → StopsAtFile F L takes bytes r events
     → status_of_cause r.cause ≡ 4 → HadFailure events
 file_failed F L takes bytes _ _ (writing.too_large _ _ large) e = absurd (omega (arith, e))
-file_failed F L takes bytes r _ (writing.at_output _ _ events fit h) e = failed_at_output _ bytes r events h
+file_failed F L takes bytes r _ (writing.at_output _ _ events fit h) e = output_failed _ bytes r events h
 file_failed F L takes bytes _ _ (writing.no_memory _ _ count writes fit is lt h) e = absurd (omega (arith, e))
 
 write_failed_so : (format : Format) (out name : List ℕ) (outcome : Outcome) (events : List Event)

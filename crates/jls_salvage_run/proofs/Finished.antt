@@ -1,5 +1,5 @@
 -- Runs that end with 0 or 1, by what the words ask for.
-use Rattle.std.proofs.Common.{◌≡◌, ◌≤◌, ℕ, Bool, true, false, inl, inr, List, [], ◌∷◌, ◌++◌, Option, Some, None, sym, subst, ap, ◌∙◌, refl}
+use Rattle.std.proofs.Common.{◌≡◌, ◌≤◌, ℕ, Bool, true, false, List, [], ◌++◌, Option, Some, None, sym, subst, ap, ◌∙◌, refl}
 use Rattle.std.proofs.Common.{arith}
 use Rattle.std.specs.Borrow.{Bor}
 use Rattle.std.specs.Prelude.{◌↔◌, IsTrue}
@@ -8,9 +8,9 @@ use Rattle.std.proofs.lemmas.List.{append-nil}
 use Rattle.clap.specs.Words.{Text}
 use Rattle.jls_partial.specs.Partial.{PartialPicture}
 use Rattle.jls_partial.specs.Status.{IsSettled}
-use Rattle.jls_io.specs.Event.{Event, History, GrewBy, took}
-use Rattle.jls_io.specs.Event.{bytes_taken}
-use Rattle.jls_io.specs.Writing.{Printed, AreWrites}
+use Rattle.jls_io.specs.Event.{Event, History, GrewBy}
+use Rattle.jls_io.specs.Writing.{Printed}
+use Rattle.jls_io.proofs.Writes.{none_printed}
 use Rattle.jls_station.specs.Given.{Given}
 use Rattle.jls_salvage_run.specs.AllInputs.{IsTaken, StopsAt, not_there, refused, other_shape, no_memory}
 use Rattle.jls_salvage_run.specs.Joining as joining
@@ -71,17 +71,6 @@ pub status_of_unsettled : (n : Bor (List ℕ)) (p : PartialPicture) (f : Picture
 status_of_unsettled n p (Unsettled component line) r is = ap (λ (x : Refusal). status_of_cause x.cause) is
 
 -- ---- no fault line
-
--- nothing is written where there are no bytes
-none_written : (writes : List Event) → AreWrites writes → bytes_taken writes ≡ [] → writes ≡ []
-none_written [] h e = refl
-none_written (took [] ∷ more) h e = absurd (omega (arith, h.0))
-none_written (took (b ∷ bs) ∷ more) h e = absurd cc
-none_written (x ∷ more) h e = absurd h
-
-none_printed : (events : List Event) → Printed [] events → events ≡ []
-none_printed events (inl h) = none_written events h.are_writes h.they_took
-none_printed events (inr (count, h)) = let lt = h.not_all in absurd (omega (arith, lt))
 
 unchanged : (old new : History) (events : List Event) → new ≡ old ++ events → events ≡ [] → new ≡ old
 unchanged old new events e is = e ∙ (ap (λ (es : List Event). old ++ es) is ∙ append-nil old)

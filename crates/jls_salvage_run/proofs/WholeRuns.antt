@@ -1,5 +1,5 @@
 -- What whole runs of `join` hand out.
-use Rattle.std.proofs.Common.{◌≡◌, ℕ, zero, suc, true, false, List, [], ◌∷◌, Option, refl, sym, ap, ◌∙◌, subst, arith}
+use Rattle.std.proofs.Common.{◌≡◌, ℕ, zero, suc, List, [], ◌∷◌, Option, refl, sym, ap, ◌∙◌, subst, arith}
 use Rattle.std.specs.Prelude.{◌↔◌, Contains, All}
 use Rattle.jls_values.specs.Join.{join_all, AllOfShape}
 use Rattle.jls_partial.specs.Parts.{IsPartOf, EachLineIsHeld, PartsGiveThePicture, sourced}
@@ -9,14 +9,12 @@ use Rattle.jls_partial.specs.Text.{text, IsPartial}
 use Rattle.jls_copy.specs.CopyLaws.{BytesDecide}
 use Rattle.jls_copy.specs.ReadCopy.{ReadCopy}
 use Rattle.jls_station.specs.Given.{Given, Gives, by_text, by_copy, GivesPartial, marked}
-use Rattle.jls_station.specs.Texts.{is_text, IsTextOf}
+use Rattle.jls_station.specs.Texts.{IsTextOf}
+use Rattle.jls_station.proofs.TextsApart.{no_text, text_begins}
 use Rattle.jls_marker.specs.SegmentLaws.{AreBytes}
 use Rattle.jls_salvage_run.specs.AllInputs.{partials, IsUnionOf, AreOfOneShape}
 use Rattle.jls_salvage_run.specs.CommandLaws.{input_bytes, AreInputsOf, SameInputsSameOutput, SurvivingLinesGiveThePicture}
 use Rattle.jls_salvage_run.proofs.InputBytes.{AreGiven, bytes_of_join}
-
-not_so : {P : Type 0} → false ≡ true → P
-not_so e = absurd cc
 
 -- ---- inputs and pictures
 
@@ -42,17 +40,13 @@ member_of_input source (x ∷ inputs) (q ∷ ps) bytes h (zero, lt, e) =
 member_of_input source (x ∷ inputs) (q ∷ ps) bytes h (suc k, lt, e) =
     let m = member_of_input source inputs ps bytes h.2 (k, omega (arith, lt), e) in (m.0, (suc m.1.0, omega (arith, m.1.1), m.1.2), m.2)
 
--- a text begins as one
-text_begins : (bytes : List ℕ) (p : PartialPicture) → IsTextOf bytes p → is_text bytes ≡ true
-text_begins bytes p is = ap is_text is.bytes_are
-
 module _ (apart : (bytes : List ℕ) (p q : PartialPicture) → IsTextOf bytes p → IsTextOf bytes q → p ≡ q) (decide : BytesDecide) where
   -- what an input gives is decided by its bytes
   one_given : (source : Option ℕ) (bytes : List ℕ) (g g' : Given) → AreBytes bytes → Gives source bytes g → Gives source bytes g'
       → g.partial ≡ g'.partial
   one_given source bytes _ _ low (by_text _ _ p is) (by_text _ _ q is') = apart bytes p q is is'
-  one_given source bytes _ _ low (by_text _ _ p is) (by_copy _ _ r stop copied reads) = not_so (sym copied ∙ text_begins bytes p is)
-  one_given source bytes _ _ low (by_copy _ _ r stop copied reads) (by_text _ _ p is) = not_so (sym copied ∙ text_begins bytes p is)
+  one_given source bytes _ _ low (by_text _ _ p is) (by_copy _ _ r stop copied reads) = no_text bytes copied (text_begins bytes p is)
+  one_given source bytes _ _ low (by_copy _ _ r stop copied reads) (by_text _ _ p is) = no_text bytes copied (text_begins bytes p is)
   one_given source bytes _ _ low (by_copy _ _ r stop copied reads) (by_copy _ _ r' stop' copied' reads') =
       ap (λ (x : ReadCopy). marked source x.partial) ((decide bytes low).one_reading r r' reads reads')
 

@@ -1,16 +1,16 @@
 -- What the exit statuses 2 to 5 of a run mean.
-use Rattle.std.specs.Prelude.{◌≡◌, ◌≤◌, ◌||◌, ◌⊎◌, ℕ, Bool, true, false, List, [], ◌∷◌, length, filter, Option, None}
+use Rattle.std.specs.Prelude.{◌≡◌, ◌≤◌, ◌⊎◌, ℕ, Bool, false, List, [], ◌∷◌, Option, None}
 use Rattle.std.specs.List.{list_any}
 use Rattle.clap.specs.Words.{Text}
 use Rattle.clap.specs.declared.error.kind.ErrorKind.{ErrorKind}
 use Rattle.jls_partial.specs.Status.{IsSettled}
 use Rattle.jls_write.specs.Picture.{picture_of}
-use Rattle.jls_io.specs.Event.{Event, History, GrewBy, opened, is_creation, is_read, is_failed_opening, is_failed_read, is_failed_write}
+use Rattle.jls_io.specs.Event.{Event, History, GrewBy, opened, is_creation}
 use Rattle.jls_io.specs.Writing.{Printed}
 use Rattle.jls_station.specs.Given.{Given}
 use Rattle.jls_station.specs.Inputs.{IsEnough, IsRefused}
 use Rattle.jls_salvage_run.specs.AllInputs.{EndsAt, IsOfOtherShape, IsTaken, partials}
-use Rattle.jls_station.specs.Reading.{IsRead}
+use Rattle.jls_station.specs.Reading.{HadFailure, IsRead}
 use Rattle.jls_station.specs.declared.input.InputFault.{InputFault}
 use Rattle.jls_station.specs.declared.input.ReadStop.TheVariants.{Whole}
 use Rattle.jls_salvage_run.specs.WritingFiles.{IsTooLarge}
@@ -21,14 +21,6 @@ use Rattle.jls_cli.specs.SalvageWords.{AreRefused}
 use Rattle.jls_cli.specs.SalvageAsking.{Asked, check, join, show, write_pnm, write_jls, AskFor, AskForNothing}
 use Rattle.jls_salvage_run.specs.FaultLines.{program}
 use Rattle.jls_salvage_run.specs.Runs.{Ran}
-
--- something was not opened or created, or a read or a write failed
-abbrev pub is_failure : Event → Bool
-is_failure e = is_failed_opening e || (is_failed_read e || is_failed_write e)
-
--- a device failed; or so many reads were made as one input can have
-abbrev pub HadFailure : List Event → Type 0
-HadFailure events = (list_any is_failure events ≡ true) ⊎ (4294967295 ≤ length (filter is_read events))
 
 -- if a run ends with status 4, one of two things happened. The desk or the report output failed in it, or so many reads were made as one
 -- input can have

@@ -19,7 +19,7 @@ use Rattle.jls_search.specs.declared.found.GroupsReported.{GroupsReported}
 abbrev items_of : Vec ℕ Global → List ℕ
 items_of v = v.items
 
-count_of : (vs : List (Vec ℕ Global)) → length (lists_of vs) ≡ length vs
+pub count_of : (vs : List (Vec ℕ Global)) → length (lists_of vs) ≡ length vs
 count_of vs = length-map items_of vs
 
 lists_append : (vs more : List (Vec ℕ Global)) → lists_of (vs ++ more) ≡ lists_of vs ++ lists_of more

@@ -15,7 +15,8 @@ use Rattle.jls_search.specs.declared.setting.Goal.TheVariants.{Group}
 use Rattle.jls_search.specs.declared.setting.Setting.{Setting}
 use Rattle.jls_search.specs.declared.whole_search.Searched.{Searched}
 use Rattle.jls_search.proofs.FoundChoices.{Added, added_by, rose}
-use Rattle.jls_search.proofs.GroupSearches.{count_of, went}
+use Rattle.jls_search.proofs.FoundMore.{count_of}
+use Rattle.jls_search.proofs.GroupSearches.{went}
 use Rattle.jls_search.proofs.Steps.{when_over}
 use Rattle.jls_search.proofs.Walks.{stopped}
 

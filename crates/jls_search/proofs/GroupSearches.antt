@@ -1,8 +1,7 @@
 -- A search by groups, one try more, one copy more outside of a group and one group more.
 use Rattle.std.proofs.Common.{◌≡◌, ℕ, zero, suc, ◌+◌, ◌-◌, ◌^◌, ◌<◌, ◌≤◌, ◌⊎◌, ◌||◌, Bool, true, false, List, [], ◌∷◌, ◌++◌, length, map}
 use Rattle.std.proofs.Common.{min, take}
-use Rattle.std.proofs.Common.{get_or, refl, sym, ap, ◌∙◌, subst, arith, inl, inr, length-append, append_assoc, Some, None, Vec}
-use Rattle.std.proofs.Common.{Global}
+use Rattle.std.proofs.Common.{get_or, refl, sym, ap, ◌∙◌, subst, arith, inl, inr, length-append, append_assoc, Some, None}
 use Rattle.std.specs.Prelude.{slice_get}
 use Rattle.std.specs.List.{AllByRecursion, Contains, flat_map, list_any}
 use Rattle.std.specs.List.Sorted.{IsPermutation}
@@ -24,10 +23,8 @@ use Rattle.jls_search.specs.Search.{lists_of}
 use Rattle.jls_values.proofs.Lists.{all_more}
 use Rattle.jls_values.specs.OrderedSetLaws.{or_false, or_comm}
 use Rattle.jls_search.proofs.FoundChoices.{Added}
-use Rattle.jls_search.proofs.Paths.{length-map, order}
-
-pub count_of : (vs : List (Vec ℕ Global)) → length (lists_of vs) ≡ length vs
-count_of vs = length-map (λ (v : Vec ℕ Global). v.items) vs
+use Rattle.jls_search.proofs.FoundMore.{count_of}
+use Rattle.jls_search.proofs.Paths.{order}
 
 or_after : (a b c : Bool) → (a || (b || c)) ≡ ((b || a) || c)
 or_after true true c = refl

@@ -7,8 +7,9 @@ use Rattle.std.proofs.lemmas.List.{append-nil}
 use Rattle.std.proofs.lemmas.List.Elements.{Contains-append_right}
 use Rattle.std.proofs.lemmas.List.{length-map}
 use Rattle.clap.specs.Words.{Text}
-use Rattle.jls_io.specs.Event.{Event, bytes_taken, took}
-use Rattle.jls_io.specs.Writing.{AreWrites, Printed}
+use Rattle.jls_io.specs.Event.{Event}
+use Rattle.jls_io.specs.Writing.{Printed}
+use Rattle.jls_io.proofs.Writes.{none_printed}
 use Rattle.jls_write.specs.Picture.{WholePicture, picture_of}
 use Rattle.jls_station.specs.CopyFiles.{CopyBytes, AreCopiesRead}
 use Rattle.jls_partial.specs.Partial.{PartialPicture, nothing_known}
@@ -70,17 +71,6 @@ pub not_whole : (promises whole : Bool) → exit_status (finished promises whole
 not_whole true true e is = omega (arith, e)
 not_whole false true e is = omega (arith, e)
 not_whole promises false e is = absurd cc
-
--- where there are no bytes, nothing is printed
-none_written : (writes : List Event) → AreWrites writes → bytes_taken writes ≡ [] → writes ≡ []
-none_written [] h e = refl
-none_written (took [] ∷ more) h e = absurd (omega (arith, h.0))
-none_written (took (b ∷ bs) ∷ more) h e = absurd cc
-none_written (x ∷ more) h e = absurd h
-
-pub none_printed : (events : List Event) → Printed [] events → events ≡ []
-none_printed events (inl h) = none_written events h.are_writes h.they_took
-none_printed events (inr (count, h)) = let lt = h.not_all in absurd (omega (arith, lt))
 
 module _ (words : List Text) (a : Asked) (asks : AskFor words a) where
   unfoldable pub was_done : (read copies : List CopyBytes) (m : Made) (reading writing report telling noting line : List Event)

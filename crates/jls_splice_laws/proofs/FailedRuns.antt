@@ -1,21 +1,18 @@
 -- Runs that end with status 4.
-use Rattle.std.proofs.Common.{◌≡◌, ◌+◌, ℕ, zero, suc, Bool, true, false, List, [], ◌∷◌, ◌++◌, length, Option, Some, None}
-use Rattle.std.proofs.Common.{get_or, refl, sym, ap, ◌∙◌, subst, arith, inl, inr, filter}
+use Rattle.std.proofs.Common.{◌≡◌, ℕ, zero, suc, Bool, true, false, List, [], ◌∷◌, ◌++◌, Option, Some, None}
+use Rattle.std.proofs.Common.{get_or, refl, sym, ap, ◌∙◌, subst, arith, inl, inr}
 use Rattle.std.specs.Prelude.{◌⊎◌, ◌||◌}
 use Rattle.std.specs.List.{AllByRecursion, list_any, slice_get}
-use Rattle.std.proofs.lemmas.Bool.{or_left, or_right}
-use Rattle.std.proofs.lemmas.List.{length-append}
-use Rattle.std.proofs.lemmas.List.Elements.{filter-append}
 use Rattle.std.proofs.lemmas.List.Folds.{list_any-append}
 use Rattle.clap.specs.Words.{Text}
-use Rattle.jls_io.specs.Event.{Event, gave, opened, not_opened, read_failed, write_failed, created, is_read, is_failed_opening}
+use Rattle.jls_io.specs.Event.{Event, opened, not_opened, write_failed, created, is_failed_opening}
 use Rattle.jls_io.specs.Event.{is_failed_write}
 use Rattle.jls_io.specs.Writing.{WrotePrefix}
 use Rattle.jls_write.proofs.Lending.{or_false}
 use Rattle.jls_marker.specs.declared.fault.MarkerFault.{MarkerFault}
 use Rattle.jls_station.specs.CopyFiles.{CopyBytes, AreCopiesRead, IsTextPrefix, StopsAtCopy}
 use Rattle.jls_station.specs.CopyFiles.{not_there, partial_picture, between_reads, after_the_last}
-use Rattle.jls_station.specs.Reading.{GoesOn, StopsWith, IsRead}
+use Rattle.jls_station.specs.Reading.{HadFailure}
 use Rattle.jls_station.specs.declared.copy.CopyCause.{CopyCause}
 use Rattle.jls_station.specs.declared.copy.CopyCause.TheVariants as copy
 use Rattle.jls_station.specs.declared.input.ReadStop.{ReadStop}
@@ -43,8 +40,10 @@ use Rattle.jls_splice_run.specs.Runs.{performed, named_twice, numbered_out, no_l
 use Rattle.jls_splice_laws.specs.Failures.{StopsAtUnopenedList, StopsAtUnreadList, StopsOverOpening, StopsOverReads, StopsUnopened, StopsUnread}
 use Rattle.jls_splice_laws.specs.Failures.{StopsWith4}
 use Rattle.jls_splice_laws.specs.Failures.{IsToldLast, DidInPart, RunsEndWith4}
-use Rattle.jls_splice_laws.specs.Failures.{is_failure, HadFailure, NothingElseFailed}
+use Rattle.jls_splice_laws.specs.Failures.{NothingElseFailed}
 use Rattle.jls_splice_laws.specs.Failures.{SplicedFailuresCauseStatus4, SplicedBrokenReadsCauseStatus4}
+use Rattle.jls_cli.proofs.OutputSteps.{output_failed}
+use Rattle.jls_station.proofs.FailedReads.{failed_as, failed_left, failed_right, prefix_failed, read_in_part, whole_or_not}
 use Rattle.jls_splice_laws.proofs.DoneRuns.{was_done, not_whole, one_asked, same_stops}
 
 -- Why it stops ---------------------------------------------------------------------------------------------------
@@ -241,49 +240,7 @@ runs_end_with_4 words a _ _ _ _ asks (nothing_asked faults nothing line) e = abs
 
 -- What failed ----------------------------------------------------------------------------------------------------
 
-reads_both : (a b : List Event) → length (filter is_read (a ++ b)) ≡ length (filter is_read a) + length (filter is_read b)
-reads_both a b = ap length (filter-append is_read a b) ∙ length-append (filter is_read a) (filter is_read b)
-
-failed_left : (a b : List Event) → HadFailure a → HadFailure (a ++ b)
-failed_left a b (inl e) = inl (list_any-append is_failure a b ∙ or_left (list_any is_failure a) (list_any is_failure b) e)
-failed_left a b (inr le) = inr (omega (arith, reads_both a b, le))
-
-failed_right : (a b : List Event) → HadFailure b → HadFailure (a ++ b)
-failed_right a b (inl e) = inl (list_any-append is_failure a b ∙ or_right (list_any is_failure a) (list_any is_failure b) e)
-failed_right a b (inr le) = inr (omega (arith, reads_both a b, le))
-
-failed_as : (a b : List Event) → a ≡ b → HadFailure b → HadFailure a
-failed_as a b e h = subst HadFailure (sym e) h
-
--- ---- a copy that was not read to its end
-
-all_reads : (E : List ℕ → Type 0) (fed : List ℕ) (reads : List Event) → GoesOn E fed reads → length (filter is_read reads) ≡ length reads
-all_reads E fed [] h = refl
-all_reads E fed (gave room bytes ∷ more) h = let r = all_reads E (fed ++ bytes) more h.3 in omega (arith, r)
-all_reads E fed (e ∷ more) h = absurd h
-
-module _ (E : List ℕ → Type 0) where
-  last_failed : (bytes : List ℕ) (on last : List Event) (stop : ReadStop) → StopsWith E bytes last stop → (stop ≡ Whole → ⊥)
-      → GoesOn E [] on
-      → (stop ≡ Turns → length (on ++ last) ≡ 4294967295) → HadFailure (on ++ last)
-  last_failed bytes on last Whole h not g all = absurd (not refl)
-  last_failed bytes on [] Turns h not g all =
-      failed_left on [] (inr (let n = all refl in omega (arith, all_reads E [] on g, length-append on [], n)))
-  last_failed bytes on (read_failed ∷ []) Failed h not g all = failed_right on (read_failed ∷ []) (inl refl)
-  last_failed bytes on (read_failed ∷ []) stop h not g all = absurd h
-  last_failed bytes on (gave room [] ∷ []) stop h not g all = absurd h
-  last_failed bytes on last stop h not g all = absurd h
-
-  read_in_part : (reads : List Event) (bytes : List ℕ) (stop : ReadStop) → IsRead E reads bytes stop → (stop ≡ Whole → ⊥) → HadFailure reads
-  read_in_part reads bytes stop h not =
-      failed_as reads (h.on ++ h.last) h.reads_are
-      (last_failed bytes h.on h.last stop h.stops not h.goes_on (λ e. ap length (sym h.reads_are) ∙ h.used_up e))
-
-whole_or_not : (stop : ReadStop) → (stop ≡ Whole) ⊎ (stop ≡ Whole → ⊥)
-whole_or_not Whole = inl refl
-whole_or_not Failed = inr (λ e. absurd cc)
-whole_or_not Turns = inr (λ e. absurd cc)
-
+-- a copy that was not read to its end
 failed_in_part : (names : List (List ℕ)) (copies : List CopyBytes) (events : List Event) → AreCopiesRead names copies events
     → (AreWhole copies → ⊥) → HadFailure events
 failed_in_part [] [] events read not = absurd (not tt)
@@ -309,14 +266,6 @@ first_not_whole (c ∷ copies) not are = not are.0
 
 -- ---- an output
 
-cut_failed : (bytes : List ℕ) (count : ℕ) (events : List Event) → WrotePrefix bytes count events → HadFailure events
-cut_failed bytes count events h =
-    failed_as events (h.writes ++ write_failed ∷ []) h.events_are (failed_right h.writes (write_failed ∷ []) (inl refl))
-
-output_failed : (name bytes : List ℕ) (r : Refusal) (events : List Event) → StopsAtOutput name bytes r events → HadFailure events
-output_failed name bytes r _ (outputs.not_there _ _) = inl refl
-output_failed name bytes r _ (outputs.cut count writes _ _ h) = failed_right (created name ∷ []) writes (cut_failed bytes count writes h)
-
 single_failed : (name file : Option (List ℕ)) (r : Refusal) (events : List Event) → StopsAtSingleFile name file r events
     → HadFailure events
 single_failed (Some name) (Some bytes) r events h = output_failed name bytes r events h
@@ -327,10 +276,10 @@ number_failed : (prefix : List ℕ) (number : ℕ) (file : NamedFile) (r : Refus
     → StopsAtNumber prefix number file r events → HadFailure events
 number_failed prefix number file r _ (number_not_there named is) = inl refl
 number_failed prefix number file r _ (number_cut count writes named is h) =
-    failed_right (created file.name ∷ []) writes (cut_failed file.bytes count writes h)
+    failed_right (created file.name ∷ []) writes (prefix_failed file.bytes count writes h)
 
 handing_failed : (t : Texts) (r : Refusal) (desk report : List Event) → StopsInHanding t r desk report → HadFailure desk ⊎ HadFailure report
-handing_failed t r _ _ (at_report report h) = inr (cut_failed t.lines h.count report h.wrote)
+handing_failed t r _ _ (at_report report h) = inr (prefix_failed t.lines h.count report h.wrote)
 handing_failed t r _ _ (at_output desk report wrote h) = inl (output_failed t.out t.text r desk h)
 handing_failed t r _ _ (at_file writing more report wrote handed h) =
     inl (failed_right writing more (single_failed t.file_name t.file r more h))

@@ -1,7 +1,7 @@
 -- Courses that end with the input, completed by EOI.
-use Rattle.std.proofs.Common.{◌≡◌, ℕ, zero, suc, ◌+◌, ◌<◌, true, false, List, [], ◌∷◌, ◌++◌, length, refl, sym, ap, ◌∙◌, subst, inl, inr}
-use Rattle.std.proofs.Common.{arith, length-append, ◌⊎◌}
-use Rattle.std.specs.Prelude.{◌/◌, ◌%◌, is_some}
+use Rattle.std.proofs.Common.{◌≡◌, ℕ, zero, suc, ◌+◌, true, false, List, [], ◌∷◌, ◌++◌, length, refl, sym, ap, ◌∙◌, subst, inl, inr}
+use Rattle.std.proofs.Common.{arith, ◌⊎◌}
+use Rattle.std.specs.Prelude.{is_some}
 use Rattle.std.specs.List.{flat_map}
 use Rattle.std.proofs.lemmas.List.{append_assoc, append-nil}
 use Rattle.jls_marker.specs.HeaderState.{HeaderState, no_headers_under}
@@ -12,13 +12,14 @@ use Rattle.jls_marker.specs.Scan.{Scan}
 use Rattle.jls_copy.specs.ScanData.{ClosedPiece, closed_bytes, fill_bytes, IsPiece}
 use Rattle.jls_copy.specs.Course.{AreUnits, BeginsWithEnd, Course, CopyUnit, Ends, EndsHere, IsCourseUnder, IsUnit, by_input}
 use Rattle.jls_copy.specs.Course.{by_marker, scan, segment}
-use Rattle.jls_copy.specs.Course.{scan_data_bytes, segment_unit_bytes, unit_bytes}
+use Rattle.jls_copy.specs.Course.{segment_unit_bytes, unit_bytes}
 use Rattle.jls_copy.specs.Course.{at_eoi, at_eoi_before_a_frame, at_no_marker, at_unknown_code, at_short_length, at_refused_segment}
 use Rattle.jls_copy.specs.Course.{for_good, with_the_input, in_a_unit}
 use Rattle.jls_copy.specs.Course.{with_soi, with_another_marker, with_no_marker, with_fill_alone}
 use Rattle.jls_copy.specs.Pieces.{FoundPiece, pieces, pieces_in, scans_in, unit_pieces}
 use Rattle.jls_copy.specs.CutPieces.{closed_by_input, cut_pieces, last_piece}
 use Rattle.jls_copy.specs.CourseLaws.{OneCourseUnder}
+use Rattle.jls_carry_laws.proofs.UnitsWalk.{unit_not_empty}
 use Rattle.jls_splice_run.specs.Completing.{IsCompleted, with_eoi, within_eoi, without_eoi, elsewhere}
 use Rattle.jls_copy.specs.declared.end.End.{End}
 use Rattle.jls_copy.specs.declared.end.End.TheVariants.{Eoi, Input, Header}
@@ -58,24 +59,6 @@ nothing_left : (h : HeaderState) (at : ℕ) (bytes : List ℕ) (e : End) (i : �
 nothing_left _ _ _ _ i (for_good h at bytes e here) same = absurd (not_here h at bytes e i here same)
 nothing_left _ _ _ _ i (with_the_input h at) same = refl
 nothing_left _ _ _ _ i (in_a_unit h at bytes part) same = absurd cc
-
--- a unit has bytes
-segment_some : (fill code : ℕ) (payload : List ℕ) → 0 < length (segment_unit_bytes fill code payload)
-segment_some fill code payload =
-    let size = length payload + 2 in
-    let l = length-append (fill_bytes fill) (0xFF ∷ code ∷ size / 256 ∷ size % 256 ∷ payload) in omega (arith, l)
-
-unit_some : (u : CopyUnit) (rest : List ℕ) → 0 < length (unit_bytes u ++ rest)
-unit_some (segment fill code payload) rest =
-    let s = segment_some fill code payload in
-    let l = length-append (segment_unit_bytes fill code payload) rest in omega (arith, l, s)
-unit_some (scan fill code payload plan closed last closing) rest =
-    let s = segment_some fill code payload in
-    let k = length-append (segment_unit_bytes fill code payload) (scan_data_bytes closed last closing) in
-    let l = length-append (segment_unit_bytes fill code payload ++ scan_data_bytes closed last closing) rest in omega (arith, l, k, s)
-
-pub no_unit : (u : CopyUnit) (rest : List ℕ) → [] ≡ unit_bytes u ++ rest → ⊥
-no_unit u rest is = let l = ap length is in let s = unit_some u rest in absurd (omega (arith, l, s))
 
 -- the last of these bytes is that of a marker
 fill_then : (n : ℕ) → fill_bytes (suc n) ++ second ≡ fill_bytes n ++ both
@@ -219,7 +202,7 @@ with_both h at bytes (scan fill code payload plan closed last (by_input count) �
     close h after final at fill code count bytes payload last rest plan closed is unit.4 both count refl unit same framed
 with_both h at bytes (scan fill code payload plan closed last (by_input count) ∷ v ∷ vs) final i
     (after, rest, is, (whole, headers, each, piece, closing), (later, more, at_v, unit_v, others)) framed =
-    absurd (no_unit v more (sym closing ∙ at_v))
+    absurd (unit_not_empty v more (sym closing ∙ at_v))
 
 -- and if the second alone follows, they do or end elsewhere
 with_second : (h : HeaderState) (at : ℕ) (bytes : List ℕ) (units : List CopyUnit) (final : HeaderState) (i : ℕ)
@@ -254,7 +237,7 @@ with_second h at bytes (scan fill code payload plan closed last (by_input (suc n
     inl (close h after final at fill code (suc n) bytes payload last rest plan closed is unit.4 second n (fill_then n) unit same framed)
 with_second h at bytes (scan fill code payload plan closed last (by_input count) ∷ v ∷ vs) final i
     (after, rest, is, (whole, headers, each, piece, closing), (later, more, at_v, unit_v, others)) framed =
-    absurd (no_unit v more (sym closing ∙ at_v))
+    absurd (unit_not_empty v more (sym closing ∙ at_v))
 
 -- bytes have a course that ends at EOI, and is this one else
 pub record EndsThen (c : Course) (whole : List ℕ) : Type 0 where

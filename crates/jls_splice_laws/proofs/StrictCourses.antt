@@ -6,7 +6,7 @@ use Rattle.jls_marker.specs.Headers.{headers_after}
 use Rattle.jls_marker.specs.ProfileLaws.{under}
 use Rattle.jls_marker.specs.Scan.{Scan}
 use Rattle.jls_marker.specs.declared.profile.Profile.TheVariants.{Strict, Wide}
-use Rattle.jls_marker.proofs.ProfileSteps.{profiles_stay, wide_headers_take_alike}
+use Rattle.jls_marker.proofs.ProfileSteps.{wide_headers_take_alike}
 use Rattle.jls_copy.specs.Course.{AreUnits, Course, CopyUnit, Ends, EndsHere, IsCourse, IsCourseUnder, IsUnit, segment, scan, unit_bytes}
 use Rattle.jls_copy.specs.Course.{at_eoi, at_eoi_before_a_frame, at_no_marker, at_unknown_code, at_short_length, at_refused_segment}
 use Rattle.jls_copy.specs.Course.{for_good, with_the_input, in_a_unit}
@@ -18,6 +18,7 @@ use Rattle.jls_copy.specs.declared.end.End.TheVariants.{Eoi, Input, Header}
 use Rattle.jls_marker.specs.declared.fault.MarkerFault.{MarkerFault}
 use Rattle.jls_marker.specs.declared.fault.MarkerFault.TheVariants as fault
 use Rattle.jls_search.specs.Faultless.{EndsWell}
+use Rattle.jls_copy_laws.proofs.CopyScans.{unit_keeps_profile}
 use Rattle.jls_splice_laws.proofs.StrictRefusals.{refused_alike}
 
 -- The end ----------------------------------------------------------------------------------------------------------
@@ -64,12 +65,6 @@ unit_of h (segment fill code payload) after rest strict (whole, taken) = (whole,
 unit_of h (scan fill code payload plan closed last closing) after rest strict (whole, taken, each, piece, following) =
     (whole, taken_wide h after code payload (Some plan) strict taken, each, piece, following)
 
--- a unit keeps the profile
-pub profile_kept : (h : HeaderState) (u : CopyUnit) (after : HeaderState) (rest : List ℕ) → IsUnit h u after rest → after.profile ≡ h.profile
-profile_kept h (segment fill code payload) after rest (whole, taken) = profiles_stay h after code payload None taken
-profile_kept h (scan fill code payload plan closed last closing) after rest (whole, taken, each, piece, following) =
-    profiles_stay h after code payload (Some plan) taken
-
 units_of : (h : HeaderState) (at : ℕ) (bytes : List ℕ) (units : List CopyUnit) (final : HeaderState) (e : End) → h.profile ≡ Strict
     → IsEndAlike e → AreUnits h at bytes units final e → AreUnits (under Wide h) at bytes units (under Wide final) e
 units_of h at bytes [] final e strict alike (same, ends) = (ap (under Wide) same, end_of h at bytes e strict alike ends)
@@ -78,7 +73,7 @@ units_of h at bytes (u ∷ units) final e strict alike (after, rest, is, unit, m
   rest,
   is,
   unit_of h u after rest strict unit,
-  units_of after (at + length (unit_bytes u)) rest units final e (profile_kept h u after rest unit ∙ strict) alike more,
+  units_of after (at + length (unit_bytes u)) rest units final e (unit_keeps_profile h u after rest unit ∙ strict) alike more,
 )
 
 -- The course -------------------------------------------------------------------------------------------------------

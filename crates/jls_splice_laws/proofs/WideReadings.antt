@@ -1,6 +1,6 @@
 -- What a file gives under the strict profile, it gives under the wide one: the units of the strict course are the first of the wide one.
-use Rattle.std.proofs.Common.{◌≡◌, ◌≢◌, ℕ, zero, suc, ◌+◌, Bool, true, false, List, [], ◌∷◌, ◌++◌, length, Some, None, inl, inr}
-use Rattle.std.proofs.Common.{refl, sym, ap, ◌∙◌, subst, arith}
+use Rattle.std.proofs.Common.{◌≡◌, ℕ, ◌+◌, Bool, true, false, List, [], ◌∷◌, ◌++◌, length, Some, inl, inr}
+use Rattle.std.proofs.Common.{refl, sym, ap, ◌∙◌, subst}
 use Rattle.std.specs.Prelude.{if◌then◌else◌}
 use Rattle.std.specs.List.{Contains}
 use Rattle.std.proofs.lemmas.List.{append-nil}
@@ -10,7 +10,6 @@ use Rattle.jls_partial.specs.Reading.{Reading}
 use Rattle.jls_marker.specs.HeaderState.{HeaderState, no_headers, no_headers_under}
 use Rattle.jls_marker.specs.ProfileLaws.{under}
 use Rattle.jls_marker.specs.declared.profile.Profile.TheVariants.{Strict, Wide}
-use Rattle.jls_marker.proofs.HeaderSteps.{frame_stays}
 use Rattle.jls_copy.specs.ScanData.{fill_bytes}
 use Rattle.jls_copy.specs.Course.{AreUnits, Course, CopyUnit, IsCourse, IsCourseUnder, IsUnit, without_units, unit_bytes}
 use Rattle.jls_copy.specs.Course.{by_input, by_marker, segment, scan, with_soi, with_another_marker, with_no_marker, with_fill_alone}
@@ -23,11 +22,13 @@ use Rattle.jls_marker.specs.declared.fault.MarkerFault.TheVariants as fault
 use Rattle.jls_copy.proofs.CourseFed.{course_fed}
 use Rattle.jls_copy.proofs.OneCourse.{Same, no_unit_at_end, one_unit}
 use Rattle.jls_copy.proofs.OneCut.{no_mark}
+use Rattle.jls_copy_laws.proofs.CopyScans.{unit_keeps_frame, unit_keeps_profile}
 use Rattle.jls_copy_laws.proofs.Members.{none_in}
 use Rattle.jls_carry_laws.proofs.SameHeads.{one_mark}
-use Rattle.jls_splice_laws.proofs.StrictCourses.{profile_kept, unit_of}
+use Rattle.jls_carry_laws.proofs.StrictHeads.{no_first, not_soi}
+use Rattle.jls_carry_laws.proofs.UnitsWalk.{unit_not_empty}
+use Rattle.jls_splice_laws.proofs.StrictCourses.{unit_of}
 use Rattle.jls_splice_laws.specs.ProfileFiles.{HasShapeUnder, WideGivesWhatStrictGives}
-use Rattle.jls_splice_laws.proofs.LongerFiles.{no_unit}
 
 -- Units ------------------------------------------------------------------------------------------------------------
 
@@ -38,17 +39,11 @@ record Longer (us vs : List CopyUnit) (l m : HeaderState) : Type 0 where
   frame : (shape : PictureShape) → l.frame ≡ Some shape → m.frame ≡ Some shape
   uncut : closed_by_input us ≡ true → more ≡ []
 
-unit_frame : (h : HeaderState) (u : CopyUnit) (after : HeaderState) (rest : List ℕ) (shape : PictureShape) → IsUnit h u after rest
-    → h.frame ≡ Some shape → after.frame ≡ Some shape
-unit_frame h (segment fill code payload) after rest shape (whole, taken) framed = frame_stays h after code payload None shape taken framed
-unit_frame h (scan fill code payload plan closed last closing) after rest shape (whole, taken, each, piece, following) framed =
-    frame_stays h after code payload (Some plan) shape taken framed
-
 units_frame : (h : HeaderState) (at : ℕ) (x : List ℕ) (us : List CopyUnit) (final : HeaderState) (e : End) (shape : PictureShape)
     → AreUnits h at x us final e → h.frame ≡ Some shape → final.frame ≡ Some shape
 units_frame h at x [] final e shape (same, ends) framed = ap (λ (y : HeaderState). y.frame) same ∙ framed
 units_frame h at x (u ∷ us) final e shape (after, rest, is, unit, more) framed =
-    units_frame after (at + length (unit_bytes u)) rest us final e shape more (unit_frame h u after rest shape unit framed)
+    units_frame after (at + length (unit_bytes u)) rest us final e shape more (unit_keeps_frame h u after rest shape unit framed)
 
 -- no byte follows a piece that the input's end closes
 nothing_follows : (h : HeaderState) (u : CopyUnit) (after : HeaderState) (rest : List ℕ) → IsUnit h u after rest → is_cut u ≡ true
@@ -60,7 +55,7 @@ nothing_follows h (scan fill code payload plan closed last by_marker) after rest
 
 no_units : (h : HeaderState) (at : ℕ) (us : List CopyUnit) (final : HeaderState) (e : End) → AreUnits h at [] us final e → us ≡ []
 no_units h at [] final e are = refl
-no_units h at (u ∷ us) final e (after, rest, is, unit, more) = absurd (no_unit u rest is)
+no_units h at (u ∷ us) final e (after, rest, is, unit, more) = absurd (unit_not_empty u rest is)
 
 behind_cut : (u : CopyUnit) (us more : List CopyUnit) → (us ≡ [] → is_cut u ≡ true → more ≡ []) → (closed_by_input us ≡ true → more ≡ [])
     → closed_by_input (u ∷ us) ≡ true → more ≡ []
@@ -86,7 +81,7 @@ longer h at x (u ∷ us) (v ∷ vs) l m d e strict (a, r, is, unit, others) (b, 
     let same : AreUnits (under Wide a) (at + length (unit_bytes u)) r vs m e =
     subst (λ (g : HeaderState). AreUnits g (at + length (unit_bytes u)) r vs m e) (sym k.headers)
     (subst (λ (y : List ℕ). AreUnits b (at + length (unit_bytes u)) y vs m e) (sym k.rests) there) in
-    let i = longer a (at + length (unit_bytes u)) r us vs l m d e (profile_kept h u a r unit ∙ strict) others same in
+    let i = longer a (at + length (unit_bytes u)) r us vs l m d e (unit_keeps_profile h u a r unit ∙ strict) others same in
     let last : us ≡ [] → is_cut u ≡ true → i.more ≡ [] =
     λ none cut.
     let none_v : vs ≡ [] = no_units (under Wide a) (at + length (unit_bytes u)) vs m e
@@ -123,25 +118,18 @@ is_closed false ps p m = absurd (none_in p m)
 
 -- Courses ----------------------------------------------------------------------------------------------------------
 
-no_first : (n b : ℕ) (bytes rest : List ℕ) → b ≢ 255 → b ∷ bytes ≡ fill_bytes n ++ (255 ∷ rest) → ⊥
-no_first zero b bytes rest other e = let f : b ≡ 255 = cc in other f
-no_first (suc n) b bytes rest other e = let f : b ≡ 255 = cc in other f
-
-no_fill : (code : ℕ) → code ≡ 216 → code ≢ 255
-no_fill code is e = omega (arith, is, e)
-
 -- the wide course, where the file begins with SOI
 from_soi : (n : ℕ) (bytes file : List ℕ) (w : Course) → file ≡ fill_bytes n ++ (255 ∷ 216 ∷ bytes) → IsCourseUnder Wide file w
     → AreUnits (no_headers_under Wide) (n + 2) bytes w.units w.headers w.end × (w.begin ≡ n + 2)
 from_soi n bytes _ _ is (with_soi k others units final e are) =
-    let one = one_mark k n 216 216 others bytes (no_fill 216 refl) (no_fill 216 refl) is in (
+    let one = one_mark k n 216 216 others bytes (not_soi 216 refl) (not_soi 216 refl) is in (
       subst (λ (y : List ℕ). AreUnits (no_headers_under Wide) (n + 2) y units final e) one.2
           (subst (λ (i : ℕ). AreUnits (no_headers_under Wide) (i + 2) others units final e) one.0 are),
       ap (λ (i : ℕ). i + 2) one.0,
     )
-from_soi n bytes _ _ is (with_another_marker k code others p q) = absurd (q (one_mark k n code 216 others bytes p (no_fill 216 refl) is).1)
+from_soi n bytes _ _ is (with_another_marker k code others p q) = absurd (q (one_mark k n code 216 others bytes p (not_soi 216 refl) is).1)
 from_soi n bytes _ _ is (with_no_marker b others p) = absurd (no_first n b others (216 ∷ bytes) p is)
-from_soi n bytes _ _ is (with_fill_alone k) = absurd (no_mark k n 216 bytes (no_fill 216 refl) is)
+from_soi n bytes _ _ is (with_fill_alone k) = absurd (no_mark k n 216 bytes (not_soi 216 refl) is)
 
 -- the wide course gives what the strict one gives, and has its frame
 record HasAll (c w : Course) : Type 0 where

@@ -1,10 +1,11 @@
 -- What a run of jls-splice did that ended with status 4.
-use Rattle.std.specs.Prelude.{◌≡◌, ◌≤◌, ◌||◌, ◌⊎◌, ℕ, Bool, true, false, List, [], ◌∷◌, ◌++◌, length, filter, get_or, Err}
+use Rattle.std.specs.Prelude.{◌≡◌, ◌||◌, ◌⊎◌, ℕ, false, List, [], ◌∷◌, ◌++◌, get_or, Err}
 use Rattle.std.specs.List.{AllByRecursion, list_any}
 use Rattle.clap.specs.Words.{Text}
-use Rattle.jls_io.specs.Event.{Event, not_opened, is_read, is_failed_opening, is_failed_read, is_failed_write}
+use Rattle.jls_io.specs.Event.{Event, not_opened, is_failed_opening, is_failed_write}
 use Rattle.jls_io.specs.Writing.{Printed}
 use Rattle.jls_station.specs.CopyFiles.{CopyBytes, AreCopiesRead}
+use Rattle.jls_station.specs.Reading.{HadFailure}
 use Rattle.jls_station.specs.declared.input.ReadStop.TheVariants.{Whole}
 use Rattle.jls_search.specs.Shapes.{HasNoFrame}
 use Rattle.jls_cli.specs.FaultLines.{fault_line}
@@ -121,14 +122,6 @@ RunsEndWith4 =
     → DidInPart words a desk report faults ⊎ ((r : Refusal) × IsToldLast r faults × StopsWith4 a r desk report)
 
 -- What failed ----------------------------------------------------------------------------------------------------
-
--- something was not opened or created, or a read or a write failed
-abbrev pub is_failure : Event → Bool
-is_failure e = is_failed_opening e || (is_failed_read e || is_failed_write e)
-
--- a device failed; or so many reads were made as one copy can have
-abbrev pub HadFailure : List Event → Type 0
-HadFailure events = (list_any is_failure events ≡ true) ⊎ (4294967295 ≤ length (filter is_read events))
 
 -- no opening, creation or write among these events failed
 abbrev pub NothingElseFailed : List Event → Type 0

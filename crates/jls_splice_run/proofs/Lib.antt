@@ -4,7 +4,6 @@ mod PrintedLineExamples
 pub mod Eois
 mod NewFiles
 mod MendedNumbers
-mod MappedMore
 mod CarriedCopies
 mod Offsets
 mod KeptCeilings

@@ -31,7 +31,9 @@ use Rattle.jls_splice_run.specs.BadLists.{not_whole, not_understood, not_taken, 
 use Rattle.jls_splice_run.specs.Copies.{bytes_read, stops_read}
 use Rattle.jls_splice_run.specs.Making.{IsWantOfMemory}
 use Rattle.jls_splice_run.specs.Tasks.{texts_of}
-use Rattle.jls_splice_run.proofs.MappedMore.{mapped_one_more}
+use Rattle.jls_carried.proofs.MappedLists.{mapped_one_more}
+use Rattle.jls_splice_run.proofs.Done.{read_count}
+use Rattle.jls_splice_run.proofs.Members.{count_read}
 
 -- as many are taken as there are so many
 count_taken : {A X : Type 0} (g : A → X) (xs : List A) (i : ℕ) → i < length xs → length (map g (take i xs)) ≡ i
@@ -201,9 +203,6 @@ bytes_more read i file within is =
     ap bytes_read (mapped_one_more copy_of read i file within is)
     ∙ map-append (λ (c : CopyBytes). c.bytes) (copies_of (take i read)) (copy_of file ∷ [])
 
-pub count_read : (read : List CopyFile) → length (bytes_read (copies_of read)) ≡ length read
-count_read read = length-map (copies_of read) (λ (c : CopyBytes). c.bytes) ∙ length-map read copy_of
-
 -- one copy more
 pub with_places_more : (read : List CopyFile) (own : List (Vec Place Global)) (i : ℕ) (file : CopyFile) (places : Vec Place Global)
     → length own ≡ length read → i < length read → file ≡ get_or read i file → places ≡ get_or own i places
@@ -276,13 +275,6 @@ stopped_at d names files i file places r many within is before refused named =
     }
 
 -- ---- as many of each
-
-read_count : (names : List Text) (copies : List CopyBytes) (events : List Event) → AreCopiesRead names copies events
-    → length names ≡ length copies
-read_count [] [] events r = refl
-read_count [] (c ∷ cs) events r = absurd r
-read_count (n ∷ ns) [] events r = absurd r
-read_count (n ∷ ns) (c ∷ cs) events r = ap suc (read_count ns cs r.1 r.4)
 
 -- as many lists are read as have names
 pub as_many_read : (names : List (Bor (List ℕ))) (files : List CopyFile) (events : List Event)

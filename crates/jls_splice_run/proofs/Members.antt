@@ -42,11 +42,12 @@ name_at [] i d l = absurd (omega (arith, l))
 name_at (n ∷ ns) zero d l = refl
 name_at (n ∷ ns) (suc i) d l = name_at ns i d (omega (arith, l))
 
--- a copy that is named is one of those that were read
-count_read : (copies : List CopyFile) → length (bytes_read (copies_of copies)) ≡ length copies
+-- as many are read as there are copies
+pub count_read : (copies : List CopyFile) → length (bytes_read (copies_of copies)) ≡ length copies
 count_read [] = refl
 count_read (c ∷ cs) = ap suc (count_read cs)
 
+-- a copy that is named is one of those that were read
 pub named_within : (copies : List CopyFile) (read : List (List ℕ)) (copy : ℕ) → read ≡ bytes_read (copies_of copies) → 0 < length copies
     → IsCopyNamed read copy → copy < length copies
 named_within copies read copy e some (inl other) = omega (arith, other.within, ap length e, count_read copies)

@@ -10,3 +10,5 @@ pub mod CopiesInTurn
 pub mod CopyReads
 pub mod ReadingOn
 pub mod ReadBytes
+pub mod TextsApart
+pub mod FailedReads

@@ -1,6 +1,7 @@
 -- How an input is read: as long as there is reason to, and no longer.
-use Rattle.std.specs.Prelude.{◌≡◌, ℕ, ◌<◌, ◌≤◌, List, [], ◌∷◌, ◌++◌, length}
-use Rattle.jls_io.specs.Event.{Event, gave, read_failed, bytes_given}
+use Rattle.std.specs.Prelude.{◌≡◌, ◌⊎◌, ℕ, ◌<◌, ◌≤◌, true, List, [], ◌∷◌, ◌++◌, length, filter}
+use Rattle.std.specs.List.{list_any}
+use Rattle.jls_io.specs.Event.{Event, gave, read_failed, bytes_given, is_failure, is_read}
 use Rattle.jls_station.specs.declared.input.ReadStop.{ReadStop}
 use Rattle.jls_station.specs.declared.input.ReadStop.TheVariants.{Whole, Failed, Turns}
 use Rattle.jls_marker.specs.SegmentLaws.{AreBytes}
@@ -45,3 +46,7 @@ pub record ReadSoFar (IsEnough : List ℕ → Type 0) (count : ℕ) (bytes : Lis
 -- an input was read so far, each read gave some bytes, and there was reason to go on
 abbrev pub IsReadInPart : (List ℕ → Type 0) → List Event → Type 0
 IsReadInPart IsEnough reads = GoesOn IsEnough [] reads × (length reads ≤ 4294967295)
+
+-- a device failed; or so many reads were made as one input can have
+abbrev pub HadFailure : List Event → Type 0
+HadFailure events = (list_any is_failure events ≡ true) ⊎ (4294967295 ≤ length (filter is_read events))

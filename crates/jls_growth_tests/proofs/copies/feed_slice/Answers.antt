@@ -1,11 +1,10 @@
-use Rattle.std.proofs.Common.{◌≡◌, ℕ, ◌+◌, ◌-◌, ◌≤◌, ◌^◌, List, length, Option, Some, None, arith}
-use Rattle.std.specs.Prelude.{IfSome}
+use Rattle.std.proofs.Common.{◌≡◌, ℕ, ◌+◌, ◌-◌, ◌≤◌, ◌^◌, List, length, arith}
+use Rattle.std.proofs.lemmas.Option.{IfSome_then}
 use Rattle.jls_growth_tests.proofs.copies.feed_slice.Goals as goal
 
-counted : (fed more : ℕ) (o : Option (List ℕ)) → IfSome o (λ bytes. fed ≡ length bytes) → fed ≤ 1000000 → more ≤ 1000000
-    → IfSome o (λ bytes. length bytes + more ≤ 2 ^ 63 - 1)
-counted fed more None e f m = tt
-counted fed more (Some bytes) e f m = omega (arith, e)
-
 pub feed-requires : goal.feed-requires
-feed-requires c = counted c.fed-fed.result (length c.args.slice.now) _ c.fed-fed.ensures (omega arith) (omega arith)
+feed-requires c =
+    let fed = c.fed-fed.result in
+    let more = length c.args.slice.now in
+    IfSome_then _ {P = λ (bytes : List ℕ). fed ≡ length bytes} {Q = λ (bytes : List ℕ). length bytes + more ≤ 2 ^ 63 - 1}
+    c.fed-fed.ensures (λ bytes e. omega (arith, e))

@@ -1,7 +1,7 @@
 use Rattle.std.proofs.Common.{refl, arith, None, length, rules, ◌∙◌}
 use Rattle.jls_search.specs.Search.{lists_of}
 use Rattle.jls_search.specs.declared.setting.Goal.TheVariants.{Group}
-use Rattle.jls_search.proofs.GroupSearches.{count_of}
+use Rattle.jls_search.proofs.FoundMore.{count_of}
 use Rattle.jls_search.proofs.Sets.{set_first}
 use Rattle.jls_search.proofs.Steps.{begun}
 use Rattle.jls_search.proofs.group_search.begin.Goals as goal

@@ -5,25 +5,16 @@ use Rattle.jls_station.specs.CopyFiles.{AreCopiesRead, copies_of, copy_of}
 use Rattle.jls_station.specs.declared.copy.CopyFile.{CopyFile}
 use Rattle.jls_splice_run.specs.BadLists.{AreSearched, files_searched}
 use Rattle.jls_splice_run.specs.Tasks.{task_of, texts_of}
-use Rattle.jls_splice_run.proofs.Done.{copies_stop, inputs_of, lists_stop, read_count, searched_count, witnesses_stop}
+use Rattle.jls_splice_run.proofs.Done.{copies_stop, inputs_of, lists_stop, searched_count, witnesses_stop}
+use Rattle.jls_splice_run.proofs.ListedCopies.{as_many_read}
 use Rattle.jls_splice_run.proofs.inputs.read_inputs.Goals as goal
 
--- as many copies as names
-counts : (names : List (Bor (List ℕ))) (copies : List CopyFile) (events : List Event)
-    → AreCopiesRead (texts_of names) (copies_of copies) events
-    → length names ≡ length copies
-counts names copies events read =
-    let count = read_count (texts_of names) (copies_of copies) events read in
-    let n = length-map names (λ (s : Bor (List ℕ)). s.now) in
-    let m = length-map copies copy_of in
-    omega (arith, count, n, m)
-
--- and so of what is searched
+-- as much is searched as there are names
 counts_searched : (names : List (Bor (List ℕ))) (values : List (List ℕ)) (read searched : List CopyFile) (events listing : List Event)
     → AreCopiesRead (texts_of names) (copies_of read) events → AreSearched values (copies_of read) (copies_of searched) listing
     → length names ≡ length searched
 counts_searched names values read searched events listing are known =
-    let count = counts names read events are in
+    let count = as_many_read names read events are in
     let same = searched_count values (copies_of read) (copies_of searched) listing known in
     let n = length-map read copy_of in
     let m = length-map searched copy_of in

@@ -9,7 +9,7 @@ use Rattle.jls_splice_run.specs.Carrying.{carried_files, numbered_from}
 use Rattle.jls_splice_run.specs.Completing.{IsCompleted}
 use Rattle.jls_splice_run.specs.Listing.{AreCompleted, NamedFile, named_file, named_files, numbered}
 use Rattle.jls_splice_run.proofs.MendedNumbers.{file_more}
-use Rattle.jls_splice_run.proofs.MappedMore.{mapped_one_more}
+use Rattle.jls_carried.proofs.MappedLists.{mapped_one_more}
 use Rattle.jls_splice_run.proofs.mended_files.carried_files.Goals as goal
 
 pub loop-place-preserved : goal.loop-place-preserved
