@@ -14,7 +14,10 @@ SECTOR = 512
 INTERVALS = ((0, 8), (0, 16), (0, 32), (8, 16), (5, 32), (16, 30))
 KINDS = ("thresholds", "RESET", "interleave", "precision", "three copies")
 OTHER_LAYOUTS = ("by line", "a scan for each")
+HEADERS = ("a later scan header", "the first headers")
+SCAN_HEADER = b"\xff\xda\x00\x08"
 DAMAGES = ("zeros", "lost", "inserted", "noise", "flip", "cut")
+SHORT_DAMAGES = ("zeros", "lost", "inserted", "noise")
 LONGEST = {"zeros": 64, "lost": 40, "inserted": 40, "noise": 64, "flip": 1}  # bytes of a place within a row
 
 
@@ -67,6 +70,25 @@ def beside_pixels(chance: random.Random, charls: Charls, kind: str) -> tuple[Pic
     files = [charls.write_pixels(picture), other]
     chance.shuffle(files)
     return picture, files
+
+
+def over_headers(chance: random.Random, charls: Charls, kind: str) -> tuple[Picture, list[bytes], list[bytes]]:
+    """A picture of three components, its file in two layouts, and a damaged copy of each. One of them lost headers and bytes beside them,
+    the other a place in its second half. The order of the two is free."""
+    picture = three_components(chance)
+    layouts = [charls.write_planes(picture), charls.write(picture), charls.write_pixels(picture)]
+    if kind == HEADERS[0]:
+        file, other = layouts[0], chance.choice(layouts[1:])
+        at = file.index(SCAN_HEADER, chance.choice([100, len(file) // 2]))
+        length = chance.choice([16, 64, SECTOR])
+        begin = at - chance.randint(0, length - 12)
+    else:
+        file, other = chance.sample(layouts, 2)
+        begin, length = 0, chance.choice([64, SECTOR])
+    copy = damaged_at(chance, file, begin, chance.choice(["zeros", "noise"]), length)
+    pairs = [(file, copy), (other, damaged(chance, other, 0.5, 0.95, SHORT_DAMAGES))]
+    chance.shuffle(pairs)
+    return picture, [file for file, _ in pairs], [copy for _, copy in pairs]
 
 
 def codings(chance: random.Random, charls: Charls, kind: str) -> tuple[Picture, list[bytes]]:

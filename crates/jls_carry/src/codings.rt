@@ -19,10 +19,21 @@ pub struct MendedCoding {
     pub edits: Vec<Vec<Edit>>,
 }
 
+/// Copies as they were given, and what is believed of each.
+#[derive(Clone, Copy)]
+pub(crate) struct CodedCopies<'a> {
+    pub(crate) copies: &'a [&'a [u8]],
+    /// The number of its coding.
+    pub(crate) codings: &'a [usize],
+    /// Whether its own headers say what those of its coding do.
+    pub(crate) are_own: &'a [bool],
+}
+
 /// The mended file of a coding of which these are the copies. Those that don't agree with it are left out. They are strangers, if they have
-/// scan data.
+/// scan data. Edits are of copies as they were given, also where these are read with headers that they lost.
 fn mended_coding(
     alloc: Global,
+    copies_given: &[&[u8]],
     states: &[CopyState<'_>],
     numbers: &[usize],
     bytes: Vec<u8>,
@@ -31,10 +42,10 @@ fn mended_coding(
     let mut copies = Vec::new(alloc);
     let mut edits = Vec::new(alloc);
     for number in numbers {
-        let Some(state) = states.get(*number) else {
+        let (Some(copy), Some(state)) = (copies_given.get(*number), states.get(*number)) else {
             continue;
         };
-        let made = edits_between(alloc, state.bytes, &bytes)?;
+        let made = edits_between(alloc, copy, &bytes)?;
         if agrees(state, &made) {
             copies.push(*number)?;
             edits.push(made)?;
@@ -73,9 +84,13 @@ pub(crate) fn mend_codings(
     picture: &Picture,
     codes: &mut Codes,
     states: &[CopyState<'_>],
-    codings: &[usize],
-    are_own: &[bool],
+    coded: CodedCopies<'_>,
 ) -> Result<MendedCodings, AllocError> {
+    let CodedCopies {
+        copies,
+        codings,
+        are_own,
+    } = coded;
     let mut mended = MendedCodings {
         codings: Vec::new(alloc),
         strangers: Vec::new(alloc),
@@ -91,7 +106,14 @@ pub(crate) fn mend_codings(
         done.push(*coding)?;
         let bytes = mended_file(alloc, picture, codes, state, has_eoi)?;
         let numbers = copies_of(alloc, codings, *coding)?;
-        let made = mended_coding(alloc, states, &numbers, bytes, &mut mended.strangers)?;
+        let made = mended_coding(
+            alloc,
+            copies,
+            states,
+            &numbers,
+            bytes,
+            &mut mended.strangers,
+        )?;
         if !made.copies.is_empty() {
             mended.codings.push(made)?;
         }

@@ -24,6 +24,7 @@
 //! - `rivals`: copies that read to their ends, and say otherwise
 //! - `strangers`: copies that agree with no other
 //! - `layouts`: the headers that are believed of each copy
+//! - `lost_headers`: headers that a copy lost, found by the code of lines
 //!
 //! # The rule
 //!
@@ -83,6 +84,7 @@ mod edits;
 mod interval;
 mod layouts;
 mod line_ends;
+mod lost_headers;
 mod mending;
 mod picture;
 mod pieces;
@@ -99,8 +101,9 @@ mod weighing;
 use crate::claims::{CopyState, Speaker};
 use crate::closing::has_contradiction;
 use crate::codes::Codes;
-use crate::codings::{MendedCodings, mend_codings};
+use crate::codings::{CodedCopies, MendedCodings, mend_codings};
 use crate::layouts::{Layouts, layouts_of};
+use crate::lost_headers::with_lost_headers;
 use crate::picture::Picture;
 use crate::pieces::Layout;
 use crate::rivals::{has_rival, reads_whole};
@@ -128,17 +131,34 @@ fn is_repeated(copies: &[&[u8]], number: usize) -> bool {
     }
 }
 
-/// The copies, before anything is said.
-fn states_of<'a>(
+/// The copies, those that were found with more headers in place of what these copies have.
+fn with_found<'a>(
     alloc: Global,
     copies: &[&'a [u8]],
+    found: &'a [Option<Vec<u8>>],
+) -> Result<Vec<&'a [u8]>, AllocError> {
+    let mut read: Vec<&'a [u8]> = Vec::new(alloc);
+    for (copy, found) in copies.iter().zip(found) {
+        match found {
+            None => read.push(copy)?,
+            Some(found) => read.push(found)?,
+        }
+    }
+    Ok(read)
+}
+
+/// The copies, before anything is said. They are read with the headers that they lost.
+fn states_of<'a>(
+    alloc: Global,
+    copies: &[&[u8]],
+    read: &[&'a [u8]],
     codings: &[usize],
     own: usize,
     layouts: Vec<Option<Layout>>,
     lines: usize,
 ) -> Result<Vec<CopyState<'a>>, AllocError> {
     let mut states = Vec::new(alloc);
-    for (number, (bytes, layout)) in copies.iter().zip(layouts).enumerate() {
+    for (number, (bytes, layout)) in read.iter().zip(layouts).enumerate() {
         let speaker = Speaker {
             number,
             coding: codings.get(number).copied().unwrap_or(number),
@@ -191,26 +211,33 @@ pub fn carry(
     codings: &[usize],
     own: usize,
 ) -> Result<Carried, AllocError> {
+    let found = with_lost_headers(alloc, copies)?;
+    let read = with_found(alloc, copies, &found)?;
     let Layouts {
         lines,
         layouts,
         are_own,
-    } = layouts_of(alloc, copies, codings)?;
+    } = layouts_of(alloc, &read, codings)?;
+    let coded = CodedCopies {
+        copies,
+        codings,
+        are_own: &are_own,
+    };
     let mut picture = Picture::new(alloc, lines)?;
-    let mut states = states_of(alloc, copies, codings, own, layouts, lines)?;
+    let mut states = states_of(alloc, copies, &read, codings, own, layouts, lines)?;
     let mut codes = Codes::new(alloc, &states)?;
     let whole = read_alone(alloc, &mut picture, &mut codes, &mut states)?;
     carry_on(alloc, &mut picture, &mut codes, &mut states)?;
     let is_disputed = picture.has_disputed() || has_contradiction(&picture, &states);
     let mended = if picture.has_settled() {
-        mend_codings(alloc, &picture, &mut codes, &states, codings, &are_own)?
+        mend_codings(alloc, &picture, &mut codes, &states, coded)?
     } else {
         MendedCodings {
             codings: Vec::new(alloc),
             strangers: with_headers(alloc, &states)?,
         }
     };
-    let has_rival = has_rival(alloc, &picture, &mended, &states, &whole, codings, &are_own)?;
+    let has_rival = has_rival(alloc, &picture, &mended, &states, &whole, coded)?;
     Ok(Carried {
         codings: mended.codings,
         strangers: mended.strangers,

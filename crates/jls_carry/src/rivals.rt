@@ -6,7 +6,7 @@
 use crate::claims::{CopyState, bytes_of};
 use crate::code::read_lines;
 use crate::codes::Codes;
-use crate::codings::{MendedCodings, mend_codings};
+use crate::codings::{CodedCopies, MendedCodings, mend_codings};
 use crate::edits::Edit;
 use crate::picture::Picture;
 use std::alloc::{AllocError, Global};
@@ -116,8 +116,7 @@ fn is_rival(
     mended: &MendedCodings,
     copy: &CopyState<'_>,
     states: &[CopyState<'_>],
-    codings: &[usize],
-    are_own: &[bool],
+    coded: CodedCopies<'_>,
 ) -> Result<bool, AllocError> {
     let Some(own) = own_picture(alloc, copy, picture.len())? else {
         return Ok(false);
@@ -126,7 +125,7 @@ fn is_rival(
         return Ok(false);
     }
     let mut codes = Codes::new(alloc, states)?;
-    let other = mend_codings(alloc, &own, &mut codes, states, codings, are_own)?;
+    let other = mend_codings(alloc, &own, &mut codes, states, coded)?;
     Ok(other.strangers.is_empty() && count_wrong(&other, states) <= count_wrong(mended, states))
 }
 
@@ -137,14 +136,13 @@ pub(crate) fn has_rival(
     mended: &MendedCodings,
     states: &[CopyState<'_>],
     whole: &[bool],
-    codings: &[usize],
-    are_own: &[bool],
+    coded: CodedCopies<'_>,
 ) -> Result<bool, AllocError> {
     for (state, is_whole) in states.iter().zip(whole) {
         if *is_whole
             && !state.speaker.is_echo
             && is_edited(mended, state.number)
-            && is_rival(alloc, picture, mended, state, states, codings, are_own)?
+            && is_rival(alloc, picture, mended, state, states, coded)?
         {
             return Ok(true);
         }

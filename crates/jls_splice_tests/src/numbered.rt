@@ -23,7 +23,7 @@ struct Row {
     reported: &'static str,
 }
 
-const ROWS: [Row; 18] = [
+const ROWS: [Row; 20] = [
     Row {
         file: "eight",
         copies: "100+8=0 / 400+8=0",
@@ -63,6 +63,27 @@ const ROWS: [Row; 18] = [
         numbered: &["scans", "pixels"],
         count: 2,
         reported: "copy 2 differs 200 8 8",
+    },
+    // The header of its third scan stands at 269.
+    Row {
+        file: "scans",
+        copies: "263+18=0 / pixels 200+8=85",
+        words: "--files NAME OUT 1 2",
+        prefix: "NAME",
+        status: 0,
+        numbered: &["scans", "pixels"],
+        count: 2,
+        reported: "copy 1 differs 263 12 12",
+    },
+    Row {
+        file: "scans",
+        copies: "0+40=0 / pixels 300+8=85",
+        words: "--files NAME OUT 1 2",
+        prefix: "NAME",
+        status: 0,
+        numbered: &["scans", "pixels"],
+        count: 2,
+        reported: "copy 1 differs 0 40 40",
     },
     Row {
         file: "eight",

@@ -1,0 +1,404 @@
+//! Headers that a copy lost, found by the code of lines that other copies give.
+//!
+//! A damaged place can hide where a scan begins. But the first lines of a scan, coded with its parameters, are bytes of the copy. Before
+//! these its header stood. Parameters are supposed: those of the copy's other scans, or those of another copy, or the default ones.
+
+use crate::claims::bytes_of;
+use crate::code::{CODES_TO_FILL_BYTE, FirstCode, front_of, read_lines};
+use crate::interval::Interval;
+use crate::pieces::{Layout, layout_of};
+use crate::shifts::{Shift, shifts_of};
+use jls_marker::ScanPlan;
+use jls_marker::codes::{SOF55, SOI, SOS};
+use jls_values::Shape;
+use std::alloc::{AllocError, Global};
+
+/// How the lines of a scan are interleaved, as its header says it (T.87 C.2.3).
+const ONE_COMPONENT: u8 = 0;
+
+const BY_LINE: u8 = 1;
+
+const BY_SAMPLE: u8 = 2;
+
+/// The first lines of each component, as some copy gives them.
+#[derive(Drop)]
+struct FirstLines {
+    components: Vec<Vec<Vec<u16>>>,
+}
+
+impl FirstLines {
+    /// For each component those of the copy that gives most, but for one copy. Only copies of a picture of so many components count.
+    fn of(
+        alloc: Global,
+        copies: &[&[u8]],
+        layouts: &[Option<Layout>],
+        without: usize,
+        in_frame: usize,
+    ) -> Result<FirstLines, AllocError> {
+        let mut components: Vec<Vec<Vec<u16>>> = Vec::new(alloc);
+        for _ in 0..in_frame {
+            components.push(Vec::new(alloc))?;
+        }
+        let mut first = FirstLines { components };
+        for (number, (copy, layout)) in copies.iter().zip(layouts).enumerate() {
+            if let (Some(layout), true) = (layout, number != without) {
+                if layout.shape.ids().len() == in_frame {
+                    first.take(alloc, copy, layout)?;
+                }
+            }
+        }
+        Ok(first)
+    }
+
+    /// Takes what the first pieces of a copy's scans give.
+    fn take(&mut self, alloc: Global, copy: &[u8], layout: &Layout) -> Result<(), AllocError> {
+        for piece in layout.pieces.iter() {
+            if piece.number != 0 {
+                continue;
+            }
+            let read = read_lines(alloc, &piece.interval, bytes_of(copy, piece))?;
+            let mut given: Vec<Vec<Vec<u16>>> = Vec::new(alloc);
+            for _ in 0..self.components.len() {
+                given.push(Vec::new(alloc))?;
+            }
+            for (line, samples) in read.lines.into_iter().enumerate() {
+                let component = piece.interval.place(line) % self.components.len().max(1);
+                if let Some(lines) = given.get_mut(component) {
+                    lines.push(samples)?;
+                }
+            }
+            for (lines, more) in self.components.iter_mut().zip(given) {
+                if more.len() > lines.len() {
+                    *lines = more;
+                }
+            }
+        }
+        Ok(())
+    }
+
+    /// The line at a place of the picture, if it is known.
+    fn line(&self, place: usize) -> Option<&[u16]> {
+        let in_frame = self.components.len();
+        let row = place.checked_div(in_frame)?;
+        let lines = self.components.get(place.checked_rem(in_frame)?)?;
+        Some(lines.get(row)?.as_slice())
+    }
+
+    /// The bytes that the code of these lines fills, as far as they begin an interval; none, where they can't be coded there.
+    fn code(&self, alloc: Global, interval: &Interval) -> Result<Vec<u8>, AllocError> {
+        let blank = vec![in alloc; 0u16; usize::from(interval.width)]?;
+        let mut lines: Vec<&[u16]> = Vec::new(alloc);
+        for line in 0..interval.line_count() {
+            let Some(samples) = self.line(interval.place(line)) else {
+                break;
+            };
+            lines.push(samples)?;
+        }
+        let count = interval.coded_lines(lines.len());
+        lines.truncate(count);
+        for _ in 0..interval.lines_to_fill(count, CODES_TO_FILL_BYTE) {
+            lines.push(&blank)?;
+        }
+        let Some(front) = front_of(alloc, interval, &lines)? else {
+            return Ok(Vec::new(alloc));
+        };
+        match FirstCode::of(alloc, &front, count)? {
+            None => Ok(Vec::new(alloc)),
+            Some(code) => {
+                let FirstCode { bytes, .. } = code;
+                Ok(bytes)
+            }
+        }
+    }
+}
+
+/// A segment without its payload: the marker with this code, and the length of so many bytes behind it.
+fn segment(alloc: Global, code: u8, length: u16) -> Result<Vec<u8>, AllocError> {
+    let mut bytes = Vec::new(alloc);
+    bytes.extend_from_slice(&[0xFF, code])?;
+    bytes.extend_from_slice(&length.to_be_bytes())?;
+    Ok(bytes)
+}
+
+/// How many components these are; 0 where a header can't say it.
+fn count_of(ids: &[u8]) -> u8 {
+    u8::try_from(ids.len()).unwrap_or(0)
+}
+
+/// The header of a scan of these components, told by their identifiers (T.81 B.2.3, T.87 C.2.3).
+fn scan_header(alloc: Global, ids: &[u8], interleave: u8) -> Result<Vec<u8>, AllocError> {
+    let count = count_of(ids);
+    let mut bytes = segment(alloc, SOS, 6 + 2 * u16::from(count))?;
+    bytes.push(count)?;
+    for id in ids {
+        bytes.extend_from_slice(&[*id, 0])?;
+    }
+    bytes.extend_from_slice(&[0, interleave, 0])?;
+    Ok(bytes)
+}
+
+/// SOI and the frame header of a picture of this shape (T.81 B.2.2, T.87 C.2.2).
+fn frame_header(alloc: Global, shape: &Shape) -> Result<Vec<u8>, AllocError> {
+    let mut bytes = Vec::new(alloc);
+    bytes.extend_from_slice(&[0xFF, SOI])?;
+    let ids = shape.ids();
+    let count = count_of(ids);
+    bytes.extend_from_slice(&segment(alloc, SOF55, 8 + 3 * u16::from(count))?)?;
+    bytes.push(shape.precision())?;
+    bytes.extend_from_slice(&shape.height().to_be_bytes())?;
+    bytes.extend_from_slice(&shape.width().to_be_bytes())?;
+    bytes.push(count)?;
+    for id in ids {
+        bytes.extend_from_slice(&[*id, 0x11, 0])?;
+    }
+    Ok(bytes)
+}
+
+/// These bytes, and then others.
+fn joined(alloc: Global, first: &[u8], second: &[u8]) -> Result<Vec<u8>, AllocError> {
+    let mut bytes = Vec::from_slice(alloc, first)?;
+    bytes.extend_from_slice(second)?;
+    Ok(bytes)
+}
+
+/// The first interval of the last scan that these headers begin.
+fn last_interval(alloc: Global, headers: &[u8]) -> Result<Option<Interval>, AllocError> {
+    let Some(layout) = layout_of(alloc, headers)? else {
+        return Ok(None);
+    };
+    let Some(scan) = layout.scans.last() else {
+        return Ok(None);
+    };
+    Ok(Interval::of(scan, 0, layout.shape.ids().len() as u8))
+}
+
+/// Where a code begins in a copy. It is sought behind each of these offsets in turn.
+fn begin_of(
+    alloc: Global,
+    code: &[u8],
+    copy: &[u8],
+    offsets: &[usize],
+) -> Result<Option<usize>, AllocError> {
+    for from in offsets {
+        let Some(bytes) = copy.get(*from..) else {
+            continue;
+        };
+        for shift in shifts_of(alloc, code, bytes, 0)? {
+            if let (true, Some(place)) = (shift != Shift::NONE, shift.in_copy(0)) {
+                return Ok(Some(from.saturating_add(place)));
+            }
+        }
+    }
+    Ok(None)
+}
+
+// The header of a later scan --------------------------------------------------------------------------------------------
+
+/// The first component that no scan has, in a copy whose scans have one component each.
+fn lost_component(layout: &Layout) -> Option<usize> {
+    if layout.scans.iter().any(|scan| scan.components().len() != 1) {
+        return None;
+    }
+    let mut components = 0..layout.shape.ids().len();
+    components.find(|component| {
+        let is_of = |scan: &ScanPlan| scan
+            .components()
+            .iter()
+            .any(|own| usize::from(*own) == *component);
+        !layout.scans.iter().any(is_of)
+    })
+}
+
+/// Where the header of a component's scan can stand: behind the beginning of the scan before it. If both have the same code, it stands
+/// behind a third of these bytes at least.
+fn offsets_of(layout: &Layout, component: usize) -> [usize; 2] {
+    let mut offsets = [0usize; 2];
+    for piece in layout.pieces.iter() {
+        if piece.number == 0 && piece.interval.place(0) < component {
+            let size = piece.end.saturating_sub(piece.start);
+            offsets = [piece.start, piece.start.saturating_add(size / 3)];
+        }
+    }
+    offsets
+}
+
+/// A copy with the header of a scan that it lost, in place of what stands there; `None` where it isn't found.
+fn with_scan(
+    alloc: Global,
+    copy: &[u8],
+    layout: &Layout,
+    component: usize,
+    lines: &FirstLines,
+) -> Result<Option<Vec<u8>>, AllocError> {
+    let ids = layout.shape.ids();
+    let (Some(id), Some(begin)) = (ids.get(component), copy.get(..layout.data)) else {
+        return Ok(None);
+    };
+    let header = scan_header(alloc, &[*id], ONE_COMPONENT)?;
+    let headers = joined(alloc, begin, &header)?;
+    let Some(interval) = last_interval(alloc, &headers)? else {
+        return Ok(None);
+    };
+    let code = lines.code(alloc, &interval)?;
+    let offsets = offsets_of(layout, component);
+    let Some(place) = begin_of(alloc, &code, copy, &offsets)? else {
+        return Ok(None);
+    };
+    let Some(at) = place.checked_sub(header.len()) else {
+        return Ok(None);
+    };
+    let (Some(before), Some(rest)) = (copy.get(..at), copy.get(place..)) else {
+        return Ok(None);
+    };
+    let found = joined(alloc, &joined(alloc, before, &header)?, rest)?;
+    let has_more = match layout_of(alloc, &found)? {
+        None => false,
+        Some(now) => now.scans.len() > layout.scans.len(),
+    };
+    Ok(if has_more { Some(found) } else { None })
+}
+
+// The first headers -----------------------------------------------------------------------------------------------------
+
+/// The headers before a copy's first scan header.
+fn headers_before<'a>(copy: &'a [u8], layout: &Layout) -> &'a [u8] {
+    let components = match layout.scans.first() {
+        None => 0,
+        Some(scan) => scan.components().len(),
+    };
+    let size = components.saturating_mul(2).saturating_add(8);
+    copy.get(..layout.data.saturating_sub(size)).unwrap_or(&[])
+}
+
+/// A copy with these first headers, if its scan data are found under them. Fill bytes stand before the first segment where there is more
+/// room (T.81 B.1.1.2).
+fn with_headers(
+    alloc: Global,
+    copy: &[u8],
+    headers: &[u8],
+    lines: &FirstLines,
+) -> Result<Option<Vec<u8>>, AllocError> {
+    let Some(interval) = last_interval(alloc, headers)? else {
+        return Ok(None);
+    };
+    let code = lines.code(alloc, &interval)?;
+    let Some(place) = begin_of(alloc, &code, copy, &[0])? else {
+        return Ok(None);
+    };
+    let (Some(fill), Some(rest)) = (place.checked_sub(headers.len()), copy.get(place..)) else {
+        return Ok(None);
+    };
+    let (Some(begin), Some(segments)) = (headers.get(..2), headers.get(2..)) else {
+        return Ok(None);
+    };
+    let mut found = Vec::from_slice(alloc, begin)?;
+    for _ in 0..fill {
+        found.push(0xFF)?;
+    }
+    found.extend_from_slice(segments)?;
+    found.extend_from_slice(rest)?;
+    Ok(Some(found))
+}
+
+/// A copy that has no headers with those that it may have had, beside another copy: the same but for the interleaving, or a frame header
+/// alone before the scan header.
+fn with_first_headers(
+    alloc: Global,
+    copy: &[u8],
+    other: &[u8],
+    layout: &Layout,
+    lines: &FirstLines,
+) -> Result<Option<Vec<u8>>, AllocError> {
+    let ids = layout.shape.ids();
+    let in_frame = ids.len();
+    let frame = frame_header(alloc, &layout.shape)?;
+    let begins: [&[u8]; 2] = [headers_before(other, layout), &frame];
+    for begin in begins {
+        for interleave in [ONE_COMPONENT, BY_LINE, BY_SAMPLE] {
+            let scanned = if interleave == ONE_COMPONENT {
+                ids.get(..1).unwrap_or(&[])
+            } else {
+                ids
+            };
+            if interleave != ONE_COMPONENT && (in_frame < 2 || in_frame > 4) {
+                continue;
+            }
+            let scan = scan_header(alloc, scanned, interleave)?;
+            let headers = joined(alloc, begin, &scan)?;
+            let found = with_headers(alloc, copy, &headers, lines)?;
+            if found.is_some() {
+                return Ok(found);
+            }
+        }
+    }
+    Ok(None)
+}
+
+// Both ------------------------------------------------------------------------------------------------------------------
+
+/// A copy with the headers that it lost; `None` where nothing was found. The layout is that of a copy with headers.
+fn with_lost(
+    alloc: Global,
+    copies: &[&[u8]],
+    layouts: &[Option<Layout>],
+    number: usize,
+    donor: usize,
+) -> Result<Option<Vec<u8>>, AllocError> {
+    let (Some(copy), Some(other), Some(Some(layout))) = (
+        copies.get(number),
+        copies.get(donor),
+        layouts.get(donor),
+    ) else {
+        return Ok(None);
+    };
+    let in_frame = layout.shape.ids().len();
+    let lines = FirstLines::of(alloc, copies, layouts, number, in_frame)?;
+    let mut found: Option<Vec<u8>> = None;
+    if let Some(None) = layouts.get(number) {
+        found = with_first_headers(alloc, copy, other, layout, &lines)?;
+    }
+    for _ in 1..in_frame {
+        let bytes: &[u8] = match &found {
+            None => copy,
+            Some(found) => found,
+        };
+        let Some(now) = layout_of(alloc, bytes)? else {
+            break;
+        };
+        let Some(component) = lost_component(&now) else {
+            break;
+        };
+        let more = with_scan(alloc, bytes, &now, component, &lines)?;
+        if more.is_none() {
+            break;
+        }
+        found = more;
+    }
+    Ok(found)
+}
+
+/// For each copy the same with headers that it lost: the first ones, or those of later scans of one component each. `None` stands for one
+/// that lost none, or of which nothing was found.
+pub(crate) fn with_lost_headers(
+    alloc: Global,
+    copies: &[&[u8]],
+) -> Result<Vec<Option<Vec<u8>>>, AllocError> {
+    let mut layouts = Vec::new(alloc);
+    for copy in copies {
+        layouts.push(layout_of(alloc, copy)?)?;
+    }
+    let donor = layouts.iter().position(|layout| layout.is_some());
+    let mut all = Vec::new(alloc);
+    for (number, layout) in layouts.iter().enumerate() {
+        let is_lost = match layout {
+            None => true,
+            Some(layout) => lost_component(layout).is_some(),
+        };
+        let found = match (is_lost, donor) {
+            (true, Some(donor)) => with_lost(alloc, copies, &layouts, number, donor)?,
+            _ => None,
+        };
+        all.push(found)?;
+    }
+    Ok(all)
+}
