@@ -7,7 +7,7 @@
 use crate::claims::CopyState;
 use crate::picture::Picture;
 use crate::pieces::Piece;
-use crate::settling::Tested;
+use crate::tested::Tested;
 use std::alloc::{AllocError, Global};
 
 /// How many rows behind such lines have to be settled as the copy says.

@@ -1,8 +1,22 @@
 //! Which of several readings of a line is taken, and how many copies say each.
 
 use crate::claims::Speaker;
-use crate::settling::{Confirmed, Reaching, Settling};
+use crate::settling::Settling;
 use std::alloc::AllocError;
+
+/// A chain that reaches a place, and the line that stands there in it.
+#[derive(Clone, Copy)]
+pub(crate) struct Reaching {
+    pub(crate) chain: usize,
+    pub(crate) line: usize,
+}
+
+/// A reading of a line, and the chains that say it.
+#[derive(Drop)]
+pub(crate) struct Confirmed {
+    pub(crate) reading: usize,
+    pub(crate) chains: Vec<Reaching>,
+}
 
 /// A reading is taken over another where it leaves under a quarter of the other's bytes unmatched, and this many fewer.
 const FEWER_UNMATCHED: usize = 8;

@@ -15,16 +15,17 @@
 //! - `claims`: what a copy says by itself, behind what is known
 //! - `shifts`, `runs`, `coded`: by how much bytes of a copy are moved. Where the code of lines and a copy have the same bytes
 //! - `chains`: lines of one copy in the code of another, and how many of them its bytes confirm
+//! - `tested`: which lines of copies were compared with the bytes of others
 //! - `settling`, `choosing`: which lines are settled. Which of several readings of a line is taken
 //! - `between`, `closing`: lines between settled ones, and pieces that close by themselves
 //! - `trials`: lines that are supposed, so that a copy reads on behind them
-//! - `weighing`: pieces that close with a flipped bit, told by how many bytes are wrong either way
+//! - `coded_lines`, `weighing`: pieces that close with a flipped bit, told by how many bytes are wrong either way
 //! - `rounds`: all of that, until nothing more is decided
 //! - `mending`, `codings`, `edits`: the mended file of each coding, and the edits that make it of each copy
 //! - `rivals`: copies that read to their ends, and say otherwise
 //! - `strangers`: copies that agree with no other
 //! - `layouts`: the headers that are believed of each copy
-//! - `lost_headers`: headers that a copy lost, found by the code of lines
+//! - `first_lines`, `lost_headers`: headers that a copy lost, found by the code of the first lines that others give
 //!
 //! # The rule
 //!
@@ -78,9 +79,11 @@ mod claims;
 mod closing;
 mod code;
 mod coded;
+mod coded_lines;
 mod codes;
 mod codings;
 mod edits;
+mod first_lines;
 mod interval;
 mod layouts;
 mod line_ends;
@@ -95,6 +98,7 @@ mod runs;
 mod settling;
 mod shifts;
 mod strangers;
+mod tested;
 mod trials;
 mod weighing;
 

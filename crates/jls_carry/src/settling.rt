@@ -2,8 +2,10 @@
 
 use crate::between::{is_held_back, is_refuted};
 use crate::chains::Chain;
+use crate::choosing::{Confirmed, Reaching};
 use crate::claims::CopyState;
 use crate::picture::{OwnReading, Picture};
+use crate::tested::Tested;
 use std::alloc::{AllocError, Global};
 
 /// How many rows behind those that are known hints can confirm.
@@ -20,41 +22,6 @@ pub(crate) enum Hints {
     Short,
 }
 
-/// Which lines of which copies were compared with the bytes of another.
-#[derive(Drop)]
-pub(crate) struct Tested {
-    /// For each copy, for each line.
-    lines: Vec<Vec<bool>>,
-}
-
-impl Tested {
-    /// No line, of so many copies and lines.
-    pub(crate) fn new(alloc: Global, copies: usize, lines: usize) -> Result<Tested, AllocError> {
-        let mut all = Vec::new(alloc);
-        for _ in 0..copies {
-            all.push(vec![in alloc; false; lines]?)?;
-        }
-        Ok(Tested { lines: all })
-    }
-
-    /// Notes that a line of a copy was compared.
-    pub(crate) fn add(&mut self, copy: usize, place: usize) {
-        if let Some(lines) = self.lines.get_mut(copy) {
-            if let Some(is_tested) = lines.get_mut(place) {
-                *is_tested = true;
-            }
-        }
-    }
-
-    /// Whether a line of a copy was compared.
-    pub(crate) fn has(&self, copy: usize, place: usize) -> bool {
-        match self.lines.get(copy) {
-            None => false,
-            Some(lines) => lines.get(place).copied().unwrap_or(false),
-        }
-    }
-}
-
 /// With whom a copy agrees somewhere.
 #[derive(Clone, Copy)]
 pub(crate) struct Links {
@@ -62,20 +29,6 @@ pub(crate) struct Links {
     pub(crate) with_any: bool,
     /// Whether it agrees with a copy of another coding.
     pub(crate) across_codings: bool,
-}
-
-/// A chain that reaches a place, and the line that stands there in it.
-#[derive(Clone, Copy)]
-pub(crate) struct Reaching {
-    pub(crate) chain: usize,
-    pub(crate) line: usize,
-}
-
-/// A reading of a line, and the chains that say it.
-#[derive(Drop)]
-pub(crate) struct Confirmed {
-    pub(crate) reading: usize,
-    pub(crate) chains: Vec<Reaching>,
 }
 
 /// What came of a line.

@@ -12,8 +12,8 @@ use crate::coded::Coded;
 use crate::codes::code_of;
 use crate::picture::Picture;
 use crate::pieces::Piece;
-use crate::settling::Tested;
 use crate::shifts::Shift;
+use crate::tested::Tested;
 use std::alloc::{AllocError, Global};
 
 /// Of how many rows a copy is believed in a trial.
