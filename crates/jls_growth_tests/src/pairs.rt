@@ -26,6 +26,8 @@ pub enum Which {
     HalfLost,
     /// That of `coded_pair`.
     Coded,
+    /// That of `headless_pair`.
+    Headless,
 }
 
 /// A copy of a file that has these bytes at these offsets.
@@ -70,11 +72,21 @@ pub fn coded_pair(alloc: Global) -> Result<Pair, AllocError> {
     })
 }
 
+/// The same lines in two codings: one lost the marker of its frame, the other one byte of its scan data.
+pub fn headless_pair(alloc: Global) -> Result<Pair, AllocError> {
+    Ok(Pair {
+        file: Vec::from_slice(alloc, USUAL_FILE)?,
+        first: damaged(alloc, USUAL_FILE, &[(2, 0), (3, 0)])?,
+        second: damaged(alloc, OTHER_FILE, &[(80, 0)])?,
+    })
+}
+
 /// The pair.
 pub fn pair_of(alloc: Global, which: Which) -> Result<Pair, AllocError> {
     match which {
         Which::Mended => mended_pair(alloc),
         Which::HalfLost => half_lost_pair(alloc),
         Which::Coded => coded_pair(alloc),
+        Which::Headless => headless_pair(alloc),
     }
 }

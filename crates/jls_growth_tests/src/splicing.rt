@@ -47,7 +47,7 @@ pub fn lines_of(alloc: Global, row: &Row) -> Result<Partial, Stopped> {
     let (width, height) = match row.pair {
         Which::Mended => (4, 4),
         Which::HalfLost => (1, 2),
-        Which::Coded => (10, 10),
+        Which::Coded | Which::Headless => (10, 10),
     };
     let mut partial = Partial::empty(alloc, Shape::new(8, width, height, &[1])?);
     let mut number = row.begin;
@@ -184,6 +184,27 @@ fn splice_two_codings(rt: HostRuntime) {
         &rt,
         rt.alloc(),
         "run of jls-splice over two codings, with a witness",
+        &row,
+    );
+}
+
+/// A copy without its frame header comes back by one in another coding.
+#[test]
+fn splice_after_a_lost_header(rt: HostRuntime) {
+    let row = Row {
+        pair: Which::Headless,
+        lines: CODED_LINES,
+        report: "differ 2 13\ndiffer 41 63\ndiffer 104 1\nsplices 0\nby groups 1\ncoding 1, copies 1\ncoding 2, copies 2\n\
+            copy 1 differs 2 2 2\ncopy 2 differs 80 1 1\n\
+            promise picture if copies of one coding are of one file of it, true outside of their differs, there as long as printed, \
+            with the marker segments of the mended file\n\
+            picture 10x10, 8 bits, components 1\nsettled 10, missing 0, disputed 0\n",
+        ..FOUR_BACK
+    };
+    run_row(
+        &rt,
+        rt.alloc(),
+        "run of jls-splice after a lost header",
         &row,
     );
 }
