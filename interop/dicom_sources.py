@@ -1,18 +1,20 @@
 """DICOM files of JPEG-LS frames for interop/dicom, made of test data of Debian's packages: of pydicom, nibabel and GDCM.
 
 What these packages have in another coding is coded by DCMTK (dcmcjpls) or GDCM (gdcmconv). Files of several frames are made of one
-picture: its tiles are the frames, as in a mosaic. DEBIAN_ROOT is as in interop/real_pictures.py.
+picture: its tiles are the frames, as in a mosaic. Those in colour are coded by sample, by line and in planes, if they alone are wanted.
+DEBIAN_ROOT is as in interop/real_pictures.py.
 """
 from __future__ import annotations
 
 import glob
+import itertools
 import os
 import shutil
 
 import numpy
 import pydicom
 from pydicom.uid import ExplicitVRLittleEndian
-from real_pictures import PACKAGES, ROOT, plain_of, run, unpacked
+from real_pictures import JPEG_LS, PACKAGES, ROOT, plain_of, run, unpacked
 
 SINGLE = [
     f"{PACKAGES}/pydicom/data/test_files/{name}.dcm"
@@ -28,26 +30,38 @@ SINGLE += [f"{ROOT}/usr/share/doc/libgdcm3.0/examples/00191113.dcm"]
 # (a file, columns and rows of a tile, frames)
 TILED = [("CT_small", 32, 16), ("CT_small", 16, 60), ("MR_small", 16, 15), ("MR_small", 32, 4), ("SC_rgb_small_odd", 3, 1)]
 TILED += [("siemens_dwi_0", 128, 12), ("siemens_dwi_1000", 64, 60), ("philips_mprage", 64, 20), ("J2K_pixelrep_mismatch", 64, 30)]
+COLOUR = "SC_rgb_rle SC_rgb_rle_16bit SC_rgb_rle_2frame SC_rgb_rle_16bit_2frame SC_rgb_jpeg_dcmd GDCMJ2K_TextGBR ExplVR_BigEnd".split()
+# Of colour files the components of a frame are three tiles
+TILED_IN_COLOUR = [("CT_small", 32, 5), ("MR_small", 32, 1), ("J2K_pixelrep_mismatch", 64, 9), ("693_J2KI", 128, 3)]
+INTERLEAVES = ("sample", "line", "none")
 LARGEST = 1 << 20  # bytes of a file that is taken, so that the run stays short
 
 
 def coded(plain: str, name: str) -> bool:
     """Codes a file as JPEG-LS lossless; answers whether a DICOM program could."""
-    for words in (["dcmcjpls", "--interleave-line", plain, name], ["gdcmconv", "--jpegls", plain, name]):
-        if run(*words) and pydicom.dcmread(name, stop_before_pixels=True).file_meta.TransferSyntaxUID == "1.2.840.10008.1.2.4.80":
-            return True
-    return False
+    return coded_by("line", plain, name) or run("gdcmconv", "--jpegls", plain, name) and is_coded(name)
 
 
-def tiled(path: str, name: str, size: int, frames: int) -> bool:
-    """Writes a file whose frames are tiles of one picture, not compressed."""
+def coded_by(interleave: str, plain: str, name: str) -> bool:
+    return run("dcmcjpls", f"--interleave-{interleave}", plain, name) and is_coded(name)
+
+
+def is_coded(name: str) -> bool:
+    return bool(pydicom.dcmread(name, stop_before_pixels=True).file_meta.TransferSyntaxUID == JPEG_LS[0])
+
+
+def tiled(path: str, name: str, size: int, frames: int, components: int = 1) -> bool:
+    """Writes a file whose frames are tiles of one picture, or have so many of them as components, not compressed."""
     data = pydicom.dcmread(path)
     samples = data.pixel_array
     if samples.ndim != 2:
         return False
     ups, lefts = (range(0, length - size + 1, size) for length in samples.shape)
     tiles = [samples[y : y + size, x : x + size] for y in ups for x in lefts]
-    tiles = sorted(tiles, key=lambda tile: -int(tile.astype(numpy.int64).std()))[:frames]
+    tiles = sorted(tiles, key=lambda tile: -int(tile.astype(numpy.int64).std()))[: frames * components]
+    if components > 1:
+        tiles = [numpy.stack(tiles[at : at + components], axis=-1) for at in range(0, len(tiles) - components + 1, components)]
+        data.SamplesPerPixel, data.PhotometricInterpretation, data.PlanarConfiguration = components, "RGB", 0
     data.Rows = data.Columns = size
     data.NumberOfFrames = len(tiles)
     data.PixelData = numpy.stack(tiles).astype(samples.dtype).tobytes()
@@ -56,6 +70,27 @@ def tiled(path: str, name: str, size: int, frames: int) -> bool:
     data.is_little_endian, data.is_implicit_VR = True, False
     data.save_as(name)
     return True
+
+
+def make_in_colour(folder: str) -> list[str]:
+    """The paths of JPEG-LS files in colour, made in this folder: all by sample, then by line, then in planes."""
+    plains = []
+    for base in COLOUR:
+        plains.append(f"{folder}/{base}.raw")
+        plain_of(f"{PACKAGES}/pydicom/data/test_files/{base}.dcm", plains[-1])
+    for base, size, frames in TILED_IN_COLOUR:
+        plain = f"{folder}/{base}.raw"
+        plain_of(f"{PACKAGES}/pydicom/data/test_files/{base}.dcm", plain)
+        plains.append(f"{folder}/{base}-{size}.raw")
+        tiled(plain, plains[-1], size, frames, 3)
+    names: list[str] = []
+    for interleave, plain in itertools.product(INTERLEAVES, filter(os.path.exists, plains)):
+        name = f"{folder}/{len(names):02}-{os.path.basename(plain)[:-4]}-{interleave}.dcm"
+        if coded_by(interleave, plain, name):
+            names.append(name)
+    for name in glob.glob(f"{folder}/*.raw*"):
+        os.remove(name)
+    return names
 
 
 def make(folder: str) -> list[str]:

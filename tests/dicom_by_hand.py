@@ -78,16 +78,24 @@ def checks_of_put_in_by_hand(rng: random.Random) -> Iterator[Check]:
     yield "and two have them", inserted.is_clear([Copy("a", twice), Copy("b", twice, [(190, end)]), Copy("c", twice, [part])], part)
     yield "in the preamble", inserted.is_no_element([Copy("a", twice), Copy("b", twice, [(100, 140)])], (100, 140))
     copies = [Copy("a", before + block + behind), Copy("b", before + block + behind, [part])]
-    for name, is_in_item, goes_on, hides in (
-        ("in a frame", True, False, False),
-        ("in a header", False, False, False),
-        ("in a value that goes on", False, True, False),
-        ("in a value that goes on, and ends with an element", False, True, True),
+    for name, is_in_item, is_in_length, goes_on, hides in (
+        ("in a frame", True, False, False, False),
+        ("in a header", False, False, False, False),
+        ("in a sequence that says how long it is", False, True, False, False),
+        ("in a value that goes on", False, False, True, False),
+        ("in a value that goes on, and ends with an element", False, False, True, True),
     ):
-        answers = {"is_in_item": is_in_item, "goes_on": goes_on, "can_hide_element": hides, "is_held_alike": True, "leaves": ()}
+        answers: dict[str, Any] = {"is_in_item": is_in_item, "is_in_length": is_in_length, "goes_on": goes_on, "can_hide_element": hides}
+        answers.update(is_held_alike=True, leaves=())
         stub: Any = types.SimpleNamespace(**{key: lambda *_, own=own: own for key, own in answers.items()})
-        wanted = is_in_item or goes_on and not hides
+        wanted = is_in_item or is_in_length or goes_on and not hides
         yield f"a block {name}: {wanted}", layout.is_put_in(copies, stub, part, [part]) == wanted
+    held = types.SimpleNamespace(kind="open", element=types.SimpleNamespace(length=100, value=200, end=300))
+    for is_there in (False, True):
+        own: Any = types.SimpleNamespace(structure=types.SimpleNamespace(steps=[held]))
+        own.can_begin_at = lambda at, is_there=is_there: is_there and at == 280
+        name = "a sequence that can have taken an element in" if is_there else "a sequence"
+        yield f"bytes of {name}: {not is_there}", layout.Layout.is_in_length(own, 250, 20) != is_there
 
 
 def checks_of_places_by_hand(rng: random.Random) -> Iterator[Check]:

@@ -5,9 +5,9 @@ import random
 import struct
 from collections.abc import Callable, Iterator, Sequence
 
-from dicom_files import Bench, File, changed, element, frame, with_value
+from dicom_files import Bench, File, changed, element, frame, item, with_value
 from dicom_pairs import told
-from dicom_rules import csa_header
+from dicom_rules import csa_header, put_before
 from jls_tools.dicom.axis.align import Copy, on_one_axis
 from jls_tools.dicom.axis.inserted import without
 from jls_tools.dicom.layout import Layout, is_out_of_chain
@@ -57,6 +57,7 @@ def checks_of_bytes_put_in(bench: Bench, made: File, rng: random.Random) -> Iter
     noise = changed(true, (made.name_at - 8, rng.randbytes(size)))
     yield told(bench, "an element's bytes lost, and noise over that element", [lost, noise], true, False, 1)
     yield from checks_of_elements_lost(bench, made, rng)
+    yield from checks_of_sequences_put_into(bench, made, rng)
     inner = true.index(b"Doe^Jane")
     yield told(bench, "a text of ten letters more", [put(true, inner + 3, b"anna^maria"), changed(true, zeros)], true, False)
     begin = text.index(b"sSlice[0]")
@@ -110,6 +111,22 @@ def checks_of_chains_put_into(bench: Bench, made: File, rng: random.Random) -> I
         copies = [Copy("a", data), Copy("b", data, [part])]
         found = is_out_of_chain(copies, Layout(without(copies, [part])), part, [part])
         yield f"{name}: it says whether they are none of it ({found})", found == is_out
+
+
+def checks_of_sequences_put_into(bench: Bench, made: File, rng: random.Random) -> Iterator[Check]:
+    """A sequence that says how long it is shows that bytes are none of an element in it, but for one behind it that it takes in."""
+    inner = b"".join(element(0x181000 + at, "LO", f"text {at} {at * 7919 % 1009}") for at in range(20))
+    behind = element(0x7FE00001, "LO", "another text")
+    true = put_before(made.bytes, 0x280002, element(0x189346, "SQ", item(inner)))
+    hurt = changed(true, (true.index(made.frames[0]) + 70, b"\x5a" * 8))
+    at = true.index(b"text 11 ")
+    for name, place in (("a value", at + 3), ("a header", at - 5)):
+        yield told(bench, f"bytes put into {name} of a sequence", [put(true, place, rng.randbytes(20)), hurt], true)
+    true = put_before(made.bytes, 0x280002, element(0x189346, "SQ", item(inner)), element(0x189400, "LO", "another text"))
+    at, size = true.index(b"text 11 "), len(behind)
+    end = true.index(b"another text") - 8
+    both = [changed(true, (end, rng.randbytes(8))), changed(true[: at - 8] + true[at - 8 + size :], (end - size, rng.randbytes(8)))]
+    yield told(bench, "elements of a sequence lost, and the header behind it damaged in both", both, true, False, 1)
 
 
 def checks_of_elements_lost(bench: Bench, made: File, rng: random.Random) -> Iterator[Check]:
@@ -231,9 +248,11 @@ def checks_of_hidden_bits(bench: Bench, made: File, rng: random.Random) -> Itera
     third = changed(true, (begin + 40, b"\0"))
     yield told(bench, "one that a third copy has", [one, other, third], true)
     big = File([frame(rng, 8, 120, 120, bench.folder)], 8, 120, 120)
-    true, page = big.bytes, big.items[0] // PAGE * PAGE + PAGE
-    copies = [stuck(true, page, 17, 4, True), changed(true, (page + 1024, lost))]
-    yield told(bench, "a bit of a frame that is lost in the other copy: of the ways that it can be one reads", copies, true)
+    true, page = big.bytes, big.items[0] // PAGE * PAGE
+    for lane in (3, 21, 48):
+        at = next(at for at in range(page + 2048 + lane, len(true), LANE) if not true[at] & 4)
+        copies = [stuck(true, page, lane, 4, True), changed(true, (at - 12, b"\x5a" * 24))]
+        yield told(bench, f"a bit of a frame in byte {lane} that the other copy lost: of both ways one reads", copies, true)
     deep = File([frame(rng, 16, 60, 80, bench.folder)], 16, 60, 80)
     page = deep.items[0] // PAGE * PAGE + PAGE
     for lane in range(5, 64, 7):

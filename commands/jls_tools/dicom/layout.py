@@ -91,6 +91,15 @@ class Layout:
             items.append((self.fragments.table.value, self.fragments.table.end))
         return any(begin < place < end for begin, end in items)
 
+    def is_in_length(self, place: int, size: int) -> bool:
+        """Whether a place stands within a sequence, or an item of one, that says how long it is: no element was lost in it.
+
+        It can have taken one in that stands after it, if the header of that is damaged in each copy.
+        """
+        steps = (step.element for step in self.structure.steps if step.kind in ("open", "item") and step.element)
+        holders = [each for each in steps if each.length != UNDEFINED and each.value < place < each.end]
+        return bool(holders) and not any(self.can_begin_at(each.end - size) for each in holders)
+
     def is_held_alike(self, place: int) -> bool:
         """Whether all copies have the same headers of the elements and items that hold a place."""
         for step in self.structure.steps:
@@ -235,7 +244,7 @@ def is_put_in(copies: Sequence[Copy], layout: Layout, part: Range, parts: Sequen
     for begin, end in parts:
         at = inserted.place_without(begin, parts)
         sizes[at] = sizes.get(at, 0) + end - begin
-    if layout.is_in_item(place):
+    if layout.is_in_item(place) or layout.is_in_length(place, part[1] - part[0]):
         return True
     is_no_element = inserted.is_no_element(copies, part) or layout.goes_on(place, part[1] - part[0])
     is_lacked_twice = sum(part in copy.absent for copy in copies) > 1  # no two copies lost the same bytes of which the other has damage

@@ -200,12 +200,9 @@ class MendedFrames:
 
     def with_hidden_bits(self, place: FramePlace) -> list[bytes]:
         """The streams of copies in which a stuck bit hides what a frame has, each with the other bits: one of both can read, or both."""
-        found = []
-        for copy in self.copies:
-            bits = [(at, bit) for at, bit in copy.hidden if any(begin <= at < end for begin, end in place.fragments)]
-            if bits:
-                found.append(place.stream(with_bits(copy.data, bits)))
-        return found
+        hidden = [[each for each in copy.hidden if any(begin <= each[0] < end for begin, end in place.fragments)] for copy in self.copies]
+        own = self.own_streams(place, [with_bits(copy.data, bits) for copy, bits in zip(self.copies, hidden)])
+        return [own[number] for number in own if hidden[number]]
 
     def refuse_unsupported(self) -> None:
         """Refuses a file of which no line came back, and whose frames have a coding that isn't read."""
