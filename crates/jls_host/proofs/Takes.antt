@@ -288,10 +288,3 @@ way_plain standing.Other false false true h = cc
 pub cond_none : {P : Type 0} (b : Bool) (x y : P) → cond b None (Some x) ≡ Some y → (b ≡ false) × (x ≡ y)
 cond_none true x y h = cc
 cond_none false x y h = (refl, cc)
-
--- nothing is both none and some
-pub not_none : {P Q : Type 0} (o : Option P) (y : P) → o ≡ None → o ≡ Some y → Q
-not_none o y e f = absurd (none_is_not (sym e ∙ f))
-  where
-    none_is_not : None ≡ Some y → ⊥
-    none_is_not h = cc
