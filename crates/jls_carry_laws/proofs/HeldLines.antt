@@ -117,10 +117,10 @@ module _ (stand : PiecesStandAtTheirOffsetsUnder Wide) (picture : PictureLines) 
 
   held_is : (files : List MendedFile) → AreFilesOfBytes files → HaveTrueFilesOfTheirSkeletons picture files
       → (r : Reading) → IsHeld files r → IsPictureLine picture r
-  held_is files low true _ (in_piece f among p before lines together begins own held r within) =
-      let t = true f among in let is = t.1 in
-      lines_are f t.0 p (low f among) is.has_held (fellow f t.0 p is.course is.is_course is.each (t.2 p)) before lines together begins own
-      (λ s inside. held_is files low true s (held s inside)) r within
+  held_is files low true _ (in_piece c held r within) =
+      let f = c.file in let p = c.piece in let t = true f c.among in let is = t.1 in
+      lines_are f t.0 p (low f c.among) is.has_held (fellow f t.0 p is.course is.is_course is.each (t.2 p)) c.before c.lines c.together c.begins
+      c.held (λ s inside. held_is files low true s (held s inside)) r within
 
   strictly_held_is : StrictPiecesHaveHeads picture → (files : List MendedFile) → AreFilesOfBytes files → HaveTrueFilesAsLong picture files
       → (r : Reading) → IsStrictlyHeld files r → IsPictureLine picture r

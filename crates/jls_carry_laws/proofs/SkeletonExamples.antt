@@ -250,8 +250,16 @@ line_begins = record { at_most = lit≤ tt; unread = line_reads.unread; begins =
 row_1_is_held : IsHeld (mended ∷ []) (reading_of 0 1 line)
 unfolding bits_read_after ends_data bits width_after
 row_1_is_held =
-    in_piece mended (0, lit< tt, refl) in_second [] (line ∷ []) refl line_begins
-    (code_of_test mended 39 (interval_of plan 1) line_bytes [] (line ∷ []) 0 45 computed.no_bits computed.bits_of_line refl)
+    in_piece (record {
+      file = mended;
+      among = (0, lit< tt, refl);
+      piece = in_second;
+      before = [];
+      lines = line ∷ [];
+      together = refl;
+      begins = line_begins;
+      held = code_of_test mended 39 (interval_of plan 1) line_bytes [] (line ∷ []) 0 45 computed.no_bits computed.bits_of_line refl;
+    })
     (λ s among. absurd (none_in s among)) (reading_of 0 1 line) (0, lit< tt, refl)
 
 -- The other file ----------------------------------------------------------------------------------------

@@ -427,8 +427,16 @@ unfolding least_from bits value_of_bits width_after golomb quantized_gradient is
     golomb_k updated run_updated events_from events_after cell_before run_cell_before block_columns full_blocks blocks run_index_before
     event_bits bits_of_events code bits_read_after is_whole_after ends_data
 first_0_is_held =
-    in_piece by_line (1, lit< tt, refl) in_lines [] (first_0 ∷ []) refl begun.first_by_line
-    (code_of_test by_line 30 (interval_of lines 0) both_lines [] (first_0 ∷ []) 0 32 computed.none_by_line computed.one_by_line refl)
+    in_piece (record {
+      file = by_line;
+      among = (1, lit< tt, refl);
+      piece = in_lines;
+      before = [];
+      lines = first_0 ∷ [];
+      together = refl;
+      begins = begun.first_by_line;
+      held = code_of_test by_line 30 (interval_of lines 0) both_lines [] (first_0 ∷ []) 0 32 computed.none_by_line computed.one_by_line refl;
+    })
     (λ s among. absurd (none_in s among)) (reading_of 0 0 first_0) (0, lit< tt, refl)
 
 -- the second component, by plane: its whole piece is held
@@ -437,9 +445,17 @@ unfolding least_from bits value_of_bits width_after golomb quantized_gradient is
     golomb_k updated run_updated events_from events_after cell_before run_cell_before block_columns full_blocks blocks run_index_before
     event_bits bits_of_events code bits_read_after is_whole_after ends_data
 second_0_is_held =
-    in_piece by_plane (0, lit< tt, refl) in_second [] (second_0 ∷ []) refl begun.first_by_plane
-    (code_of_test by_plane 59 (interval_of (plane 1) 0) second_plane [] (second_0 ∷ []) 0 32 computed.none_by_plane computed.one_by_plane
-    refl)
+    in_piece (record {
+      file = by_plane;
+      among = (0, lit< tt, refl);
+      piece = in_second;
+      before = [];
+      lines = second_0 ∷ [];
+      together = refl;
+      begins = begun.first_by_plane;
+      held = code_of_test by_plane 59 (interval_of (plane 1) 0) second_plane [] (second_0 ∷ []) 0 32 computed.none_by_plane
+          computed.one_by_plane refl;
+    })
     (λ s among. absurd (none_in s among)) (reading_of 1 0 second_0) (0, lit< tt, refl)
 
 -- one reading, or another
@@ -454,9 +470,17 @@ unfolding least_from bits value_of_bits width_after golomb quantized_gradient is
     golomb_k updated run_updated events_from events_after cell_before run_cell_before block_columns full_blocks blocks run_index_before
     event_bits bits_of_events code bits_read_after is_whole_after ends_data
 second_1_is_held =
-    in_piece by_plane (0, lit< tt, refl) in_second (second_0 ∷ []) (second_1 ∷ []) refl begun.second_by_plane
-    (code_of_test by_plane 59 (interval_of (plane 1) 0) second_plane (second_0 ∷ []) (second_1 ∷ []) 32 54 computed.one_by_plane
-    computed.two_by_plane refl)
+    in_piece (record {
+      file = by_plane;
+      among = (0, lit< tt, refl);
+      piece = in_second;
+      before = second_0 ∷ [];
+      lines = second_1 ∷ [];
+      together = refl;
+      begins = begun.second_by_plane;
+      held = code_of_test by_plane 59 (interval_of (plane 1) 0) second_plane (second_0 ∷ []) (second_1 ∷ []) 32 54 computed.one_by_plane
+          computed.two_by_plane refl;
+    })
     (of_one (reading_of 1 0 second_0) second_0_is_held) (reading_of 1 1 second_1) (1, lit< tt, refl)
 
 of_two : (r t : Reading) → IsHeld files r → IsHeld files t → (s : Reading) → Contains (r ∷ t ∷ []) s → IsHeld files s
@@ -471,9 +495,17 @@ unfolding least_from bits value_of_bits width_after golomb quantized_gradient is
     golomb_k updated run_updated events_from events_after cell_before run_cell_before block_columns full_blocks blocks run_index_before
     event_bits bits_of_events code bits_read_after is_whole_after ends_data
 first_1_is_held =
-    in_piece by_line (1, lit< tt, refl) in_lines (first_0 ∷ second_0 ∷ []) (first_1 ∷ []) refl begun.third_by_line
-    (code_of_test by_line 30 (interval_of lines 0) both_lines (first_0 ∷ second_0 ∷ []) (first_1 ∷ []) 75 182 computed.two_by_line
-    computed.three_by_line refl)
+    in_piece (record {
+      file = by_line;
+      among = (1, lit< tt, refl);
+      piece = in_lines;
+      before = first_0 ∷ second_0 ∷ [];
+      lines = first_1 ∷ [];
+      together = refl;
+      begins = begun.third_by_line;
+      held = code_of_test by_line 30 (interval_of lines 0) both_lines (first_0 ∷ second_0 ∷ []) (first_1 ∷ []) 75 182 computed.two_by_line
+          computed.three_by_line refl;
+    })
     (of_two (reading_of 0 0 first_0) (reading_of 1 0 second_0) first_0_is_held second_0_is_held) (reading_of 0 1 first_1) (2, lit< tt, refl)
 
 -- The other files ------------------------------------------------------------------------------------------

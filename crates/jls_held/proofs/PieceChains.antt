@@ -3,10 +3,10 @@ use Rattle.std.proofs.Common.{◌≡◌, ℕ, zero, suc, ◌+◌, ◌-◌, ◌*�
 use Rattle.std.proofs.Common.{subst, arith, inl, inr, take, drop, get_or, map, length-append, append_assoc, add-one}
 use Rattle.std.specs.Prelude.{if◌then◌else◌, ◌==◌}
 use Rattle.std.specs.List.{Contains}
-use Rattle.std.proofs.lemmas.List.{append-nil, take_at, take-append-le, take-append-drop, length-take-le, length-map, map-append}
+use Rattle.std.proofs.lemmas.List.{append-nil, take-append-le, take-append-drop, length-take-le, length-map, map-append}
 use Rattle.std.proofs.lemmas.List.{get_or_append_left, get_or_push, length_push}
 use Rattle.std.proofs.lemmas.List.Elements.{Contains-append_right}
-use Rattle.std.proofs.lemmas.Bool.{cases_lt, cases_Bool}
+use Rattle.std.proofs.lemmas.Bool.{cases_lt}
 use Rattle.std.proofs.lemmas.Nat.{mul-le}
 use Rattle.std.proofs.Math.Nat.{div-mul-le_self, lt-div-mul-add, div-lt_iff_lt-mul}
 use Rattle.std.proofs.Math.Seq.{take-append-add}
@@ -26,7 +26,7 @@ use Rattle.jls_copy.specs.declared.piece_in_hand.PieceInHand.{PieceInHand}
 use Rattle.jls_held.specs.MendedFiles.{MendedFile, IsHeldByte}
 use Rattle.jls_copy.specs.InHand.{BeginsWithLines}
 use Rattle.jls_held.specs.LineCode.{AreCodedTogether, IsByteOf, code_length, bits_before}
-use Rattle.jls_held.specs.HeldLines.{PieceOf, placed_at, IsHeld, in_piece}
+use Rattle.jls_held.specs.HeldLines.{placed_at, IsHeldBehind}
 use Rattle.jls_held.specs.FilePieces.{lines_of, IsPieceOf}
 use Rattle.jls_held.specs.Chains.{AreHeldBetween, AreCodeEnds, start_of, together, reading_in, IsChain}
 
@@ -51,14 +51,14 @@ begins_with_first i piece xs ys rows b =
       };
     }
 
--- lines of a piece that are coded together are held if the bytes of their code are, and the lines before them
-lines_held : (files : List MendedFile) (f : MendedFile) (p : PieceInHand) → Contains files f → (is : IsPieceOf f p)
+-- lines of a piece that are coded together are held behind known ones, if the bytes of their code are, and the lines before them are known
+lines_held : (files : List MendedFile) (known : Reading → Bool) (f : MendedFile) (p : PieceInHand) → Contains files f → (is : IsPieceOf f p)
     → (before lines later : List (List ℕ)) → lines_of p ≡ (before ++ lines) ++ later
     → AreOfWholeRows (interval_of p.plan p.interval) (before ++ lines) → AreCodedTogether (interval_of p.plan p.interval) lines
     → ((place : ℕ) → IsByteOf (interval_of p.plan p.interval) is.found.piece.bytes before lines place → IsHeldByte f (p.offset + place))
-    → ((s : Reading) → Contains (placed p.plan.components (first_row p.plan p.interval) 0 before) s → IsHeld files s)
-    → (r : Reading) → Contains (placed p.plan.components (first_row p.plan p.interval) 0 (before ++ lines)) r → IsHeld files r
-lines_held files f p among is before lines later lines_are rows as_one own known r within =
+    → ((s : Reading) → Contains (placed p.plan.components (first_row p.plan p.interval) 0 before) s → known s ≡ true)
+    → (r : Reading) → Contains (placed p.plan.components (first_row p.plan p.interval) 0 (before ++ lines)) r → IsHeldBehind files known r
+lines_held files known f p among is before lines later lines_are rows as_one own are_known r within =
     let q = is.found in
     let interval : interval_of q.piece.plan q.number ≡ interval_of p.plan p.interval =
     ap (λ (s : Scan). interval_of s q.number) is.plan_is ∙ ap (interval_of p.plan) is.number_is in
@@ -67,11 +67,21 @@ lines_held files f p among is before lines later lines_are rows as_one own known
     ∙ ap (λ n. placed p.plan.components (first_row p.plan n) 0 all) is.number_is in
     let begins = begins_with_first (interval_of p.plan p.interval) q.piece.bytes (before ++ lines) later rows
     (subst (λ z. BeginsWithLines (interval_of p.plan p.interval) q.piece.bytes z) lines_are is.begins) in
-    in_piece f among q before lines (subst (λ i. AreCodedTogether i lines) (sym interval) as_one)
-    (subst (λ i. BeginsWithLines i q.piece.bytes (before ++ lines)) (sym interval) begins)
-    (λ place b. subst (λ n. IsHeldByte f (n + place)) (sym is.offset_is)
-    (own place (subst (λ i. IsByteOf i q.piece.bytes before lines place) interval b)))
-    (λ s inside. known s (subst (λ z. Contains z s) (same before) inside)) r (subst (λ z. Contains z r) (sym (same (before ++ lines))) within)
+    record {
+      code = record {
+        file = f;
+        among = among;
+        piece = q;
+        before = before;
+        lines = lines;
+        together = subst (λ i. AreCodedTogether i lines) (sym interval) as_one;
+        begins = subst (λ i. BeginsWithLines i q.piece.bytes (before ++ lines)) (sym interval) begins;
+        held = λ place b. subst (λ n. IsHeldByte f (n + place)) (sym is.offset_is)
+            (own place (subst (λ i. IsByteOf i q.piece.bytes before lines place) interval b));
+      };
+      behind = λ s inside. are_known s (subst (λ z. Contains z s) (same before) inside);
+      own = subst (λ z. Contains z r) (sym (same (before ++ lines))) within;
+    }
 
 -- readings of first lines are readings of all
 pub placed_more : (cs : List ℕ) (row place : ℕ) (xs ys : List (List ℕ)) (r : Reading) → Contains (placed cs row place xs) r
@@ -155,14 +165,14 @@ module _ (f : MendedFile) (p : PieceInHand) (is : IsPieceOf f p) (some : 0 < len
             subst (λ k. IsHeldByte f (p.offset + k)) (sym same) (h.last (high.1 same)))
       ]
 
-  -- the line behind a chain so far is held, if the bytes of its code are, and the chain's lines
+  -- the line behind a chain so far is held behind known ones, if the bytes of its code are, and the chain's lines are known
   next_held : (chain : List ChainLine) (l : ChainLine) (rest : List (List ℕ)) (place : ℕ)
       → IsSoFar p.plan p.interval (lines_of p) chain (samples_in l ∷ rest) l.row place
       → l.component ≡ get_or p.plan.components place 0 → length chain / size < length ends
       → AreHeldBetween f.held p.offset (start_of ends (length chain / size)) (get_or ends (length chain / size) nowhere)
-      → (files : List MendedFile) → Contains files f → ((s : Reading) → Contains (map reading_in chain) s → IsHeld files s)
-      → IsHeld files (reading_in l)
-  next_held chain l rest place so component listed held files among known =
+      → (files : List MendedFile) → Contains files f → (known : Reading → Bool)
+      → ((s : Reading) → Contains (map reading_in chain) s → known s ≡ true) → IsHeldBehind files known (reading_in l)
+  next_held chain l rest place so component listed held files among known are_known =
       let all = lines_of p in let past = map samples_in chain in let n = length chain / size in let start = n * size in
       let stop = (n + 1) * size in
       let cs = p.plan.components in let first = first_row p.plan p.interval in
@@ -198,10 +208,10 @@ module _ (f : MendedFile) (p : PieceInHand) (is : IsPieceOf f p) (some : 0 < len
       (Contains-append_right (map reading_in chain) (placed cs l.row place (samples_in l ∷ [])) (reading_in l)
       (subst (λ c. Contains (reading_of (get_or cs place 0) l.row (samples_in l) ∷ []) (reading_of c l.row (samples_in l))) (sym component)
       (is_first (reading_of (get_or cs place 0) l.row (samples_in l)) []))) in
-      lines_held files f p among is before lines later (all_are ∙ ap (λ z. z ++ later) (sym both_are))
+      lines_held files known f p among is before lines later (all_are ∙ ap (λ z. z ++ later) (sym both_are))
       (whole_rows (n + 1) (before ++ lines) (ap length both_are ∙ both_count)) own_count
       (bytes_held n listed held before lines before_is both_are)
-      (λ s inside. known s (subst (λ z. Contains z s) chain_readings
+      (λ s inside. are_known s (subst (λ z. Contains z s) chain_readings
       (subst (λ z. Contains (placed cs first 0 z) s) (ap (λ z. z ++ drop start past) past_is ∙ take-append-drop start past)
       (placed_more cs first 0 before (drop start past) s inside))))
       (reading_in l)
@@ -216,24 +226,24 @@ module _ (f : MendedFile) (p : PieceInHand) (is : IsPieceOf f p) (some : 0 < len
       → (l.is_code_held ≡ true
       → AreHeldBetween f.held p.offset (start_of ends (length chain / size)) (get_or ends (length chain / size) nowhere))
       → (files : List MendedFile) → Contains files f → IsChain files chain → IsChain files (chain ++ l ∷ [])
-  chain_more chain l rest place so component listed code files among are k d inside known first =
+  chain_more chain l rest place so component listed code files among are k d inside marked known first =
       let n = length_push chain l in
       elim (cases_lt k (length chain)) [
         | inl early ↦ (
             let same = get_or_append_left chain (l ∷ []) d k early in
-            subst (λ z. IsHeld files (reading_in z)) (sym same)
-            (are k d early (ap (λ (z : ChainLine). z.is_code_held) (sym same) ∙ known)
-            (λ j e low within. subst (λ z. IsHeld files (reading_in z)) (get_or_append_left chain (l ∷ []) e j within)
+            subst (λ z. IsHeldBehind files known (reading_in z)) (sym same)
+            (are k d early (ap (λ (z : ChainLine). z.is_code_held) (sym same) ∙ marked) known
+            (λ j e low within. subst (λ z. known (reading_in z) ≡ true) (get_or_append_left chain (l ∷ []) e j within)
             (first j e low (omega (arith, n, within))))))
         | inr late ↦ (
             let at_end : k ≡ length chain = omega (arith, n, inside, late) in
             let same = get_or_push chain l d k (sym at_end) in
-            let marked = ap (λ (z : ChainLine). z.is_code_held) (sym same) ∙ known in
-            subst (λ z. IsHeld files (reading_in z)) (sym same)
-            (next_held chain l rest place so component (listed marked) (code marked) files among
+            let is_marked = ap (λ (z : ChainLine). z.is_code_held) (sym same) ∙ marked in
+            subst (λ z. IsHeldBehind files known (reading_in z)) (sym same)
+            (next_held chain l rest place so component (listed is_marked) (code is_marked) files among known
             (λ s inside. let from = of_map reading_in chain s inside in let j = from.1.0 in let x = from.0 in
             let low = from.1.1 in
-            subst (IsHeld files) (ap reading_in (get_or_append_left chain (l ∷ []) x j low ∙ from.1.2) ∙ from.2)
+            subst (λ z. known z ≡ true) (ap reading_in (get_or_append_left chain (l ∷ []) x j low ∙ from.1.2) ∙ from.2)
             (first j x (omega (arith, at_end, low)) (omega (arith, n, low))))))
       ]
 

@@ -8,7 +8,9 @@ use Rattle.jls_partial.specs.Reading.{Reading, reading_of}
 use Rattle.jls_held.specs.declared.chain.ChainLine.{ChainLine}
 use Rattle.jls_held.specs.MendedFiles.{MendedFile}
 use Rattle.jls_held.specs.LineCode.{code_length, bits_before}
-use Rattle.jls_held.specs.HeldLines.{IsHeld}
+use Rattle.jls_partial.specs.Partial.{PartialPicture}
+use Rattle.jls_held.specs.HeldLines.{IsHeldBehind}
+use Rattle.jls_held.specs.HeldPictures.{AreReadingsHeld, HasLinesBefore, is_among}
 
 -- all bytes of a file are held that carry bits between two places of the piece at this offset
 pub record AreHeldBetween (held : List Bool) (offset : ℕ) (start end : BitPlace) : Type 0 where
@@ -43,21 +45,31 @@ start_of ends (suc n) = get_or ends n nowhere
 abbrev pub reading_in : ChainLine → Reading
 reading_in l = reading_of l.component l.row l.samples.items
 
--- so many first lines of a chain are held by the files
-abbrev pub AreFirstHeld : List MendedFile → List ChainLine → ℕ → Type 0
-AreFirstHeld files lines count = (k : ℕ) (d : ChainLine) → k < count → k < length lines → IsHeld files (reading_in (get_or lines k d))
+-- so many first lines of a chain are known
+abbrev pub AreFirstKnown : (Reading → Bool) → List ChainLine → ℕ → Type 0
+AreFirstKnown known lines count =
+    (k : ℕ) (d : ChainLine) → k < count → k < length lines → known (reading_in (get_or lines k d)) ≡ true
 
--- each line of a chain whose code is held is held by the files, if all lines before it in the chain are
+-- each line of a chain whose code is held is held by the files behind known ones, if all lines before it in the chain are known
 abbrev pub IsChain : List MendedFile → List ChainLine → Type 0
 IsChain files lines =
-    (k : ℕ) (d : ChainLine) → k < length lines → (get_or lines k d).is_code_held ≡ true → AreFirstHeld files lines k
-    → IsHeld files (reading_in (get_or lines k d))
+    (k : ℕ) (d : ChainLine) → k < length lines → (get_or lines k d).is_code_held ≡ true → (known : Reading → Bool)
+    → AreFirstKnown known lines k → IsHeldBehind files known (reading_in (get_or lines k d))
 
 -- each of these is a chain
 abbrev pub AreChains : List MendedFile → List (Vec ChainLine Global) → Type 0
 AreChains files chains = (i : ℕ) (d : Vec ChainLine Global) → i < length chains → IsChain files (get_or chains i d).items
 
--- of each chain, so many first lines are held by the files
-abbrev pub ArePlacesHeld : List MendedFile → List (Vec ChainLine Global) → List ℕ → Type 0
-ArePlacesHeld files chains places =
-    (i : ℕ) (d : Vec ChainLine Global) → i < length chains → AreFirstHeld files (get_or chains i d).items (get_or places i 0)
+-- of each chain, so many first lines are known
+abbrev pub ArePlacesKnown : (Reading → Bool) → List (Vec ChainLine Global) → List ℕ → Type 0
+ArePlacesKnown known chains places =
+    (i : ℕ) (d : Vec ChainLine Global) → i < length chains → AreFirstKnown known (get_or chains i d).items (get_or places i 0)
+
+-- the second partial picture has each reading of the first
+abbrev pub AreKept : PartialPicture → PartialPicture → Type 0
+AreKept p q = (r : Reading) → is_among p r ≡ true → is_among q r ≡ true
+
+-- all readings of a partial picture are held by the files, and have the lines before them in their intervals among the readings
+pub record IsHeldPicture (files : List MendedFile) (p : PartialPicture) : Type 0 where
+  pub held : AreReadingsHeld files p
+  pub before : HasLinesBefore files p

@@ -1,6 +1,6 @@
 -- Lines that the bytes of mended files hold. All bytes of a line's code are held, and so are all lines before it in its interval. By sample
 -- a row has one code, so that its lines are held together. The files are read under the wide profile: by line and by sample.
-use Rattle.std.specs.Prelude.{◌≡◌, ℕ, ◌+◌, List, ◌++◌}
+use Rattle.std.specs.Prelude.{◌≡◌, true, ℕ, ◌+◌, Bool, List, ◌++◌}
 use Rattle.std.specs.List.{Contains}
 use Rattle.jls_piece.specs.Lines.{PieceShape}
 use Rattle.jls_partial.specs.Reading.{Reading}
@@ -36,11 +36,33 @@ abbrev pub HasHeldCode : (f : MendedFile) → PieceOf f → List (List ℕ) → 
 HasHeldCode f p before lines =
     (place : ℕ) → IsByteOf (interval_at f p) p.piece.bytes before lines place → IsHeldByte f (p.piece.offset + place)
 
--- The reading is held by the files. This is the least set of readings with one rule. A piece of one of the files begins with the code of
--- some lines. The last of them are coded together, and all bytes of their code are held. Each line before them is held, as a reading. Then
--- the last ones are held
+-- A piece of one of the files begins with the code of some lines. The last of them are coded together, and all bytes of their code are held
+pub record HeldCode (files : List MendedFile) : Type 0 where
+  pub file : MendedFile
+  pub among : Contains files file
+  pub piece : PieceOf file
+  pub before : List (List ℕ)
+  pub lines : List (List ℕ)
+  pub together : AreCodedTogether (interval_at file piece) lines
+  pub begins : BeginsWithLines (interval_at file piece) piece.piece.bytes (before ++ lines)
+  pub held : HasHeldCode file piece before lines
+
+-- the lines before the last ones, as readings
+abbrev pub before_in : {files : List MendedFile} → HeldCode files → List Reading
+before_in c = placed_at c.file c.piece c.before
+
+-- all of these lines, as readings
+abbrev pub all_in : {files : List MendedFile} → HeldCode files → List Reading
+all_in c = placed_at c.file c.piece (c.before ++ c.lines)
+
+-- The reading is held by the files. This is the least set of readings with one rule: where all bytes of some lines' code are held, and each
+-- line before them is held, these lines are held
 pub data IsHeld (files : List MendedFile) : Reading → Type 0 where
-  in_piece : (f : MendedFile) → Contains files f → (p : PieceOf f) → (before lines : List (List ℕ))
-      → AreCodedTogether (interval_at f p) lines → BeginsWithLines (interval_at f p) p.piece.bytes (before ++ lines)
-      → HasHeldCode f p before lines → ((s : Reading) → Contains (placed_at f p before) s → IsHeld files s)
-      → (r : Reading) → Contains (placed_at f p (before ++ lines)) r → IsHeld files r
+  in_piece : (c : HeldCode files) → ((s : Reading) → Contains (before_in c) s → IsHeld files s)
+      → (r : Reading) → Contains (all_in c) r → IsHeld files r
+
+-- the reading is one of some lines all bytes of whose code are held, and each line before them is known
+pub record IsHeldBehind (files : List MendedFile) (known : Reading → Bool) (r : Reading) : Type 0 where
+  pub code : HeldCode files
+  pub behind : (s : Reading) → Contains (before_in code) s → known s ≡ true
+  pub own : Contains (all_in code) r

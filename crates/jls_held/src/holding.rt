@@ -5,7 +5,7 @@ ghost use Rattle.jls_values.specs.OrderedSet as set;
 ghost use Rattle.jls_held.specs.MendedFiles.{MendedFile};
 ghost use Rattle.jls_held.specs.Mending.{file_of};
 ghost use Rattle.jls_held.specs.FilePieces.{IsPieceOf};
-ghost use Rattle.jls_held.specs.HeldPictures.{AreReadingsHeld};
+ghost use Rattle.jls_held.specs.HeldPictures.{AreReadingsHeld, HasLinesBefore};
 ghost use Rattle.jls_held.specs.Chains.{AreChains};
 
 use crate::chain::{ChainLine, chain_of};
@@ -45,6 +45,7 @@ pub fn held_lines(alloc: Global, shape: Shape, files: &[MendedCopy]) -> Result<P
     ensures shape { IfOk result (λ held. held.shape ≡ shape) }
     ensures marks { IfOk result (λ held. held.marks ≡ set.empty) }
     ensures held { IfOk result (λ held. AreReadingsHeld (map file_of files.now) held) }
+    ensures before { IfOk result (λ held. HasLinesBefore (map file_of files.now) held) }
 {
     let mut chains = Vec::new(alloc);
     for file in files {

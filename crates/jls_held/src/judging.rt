@@ -5,7 +5,7 @@ ghost use Rattle.jls_values.specs.OrderedSet as set;
 ghost use Rattle.jls_held.specs.Edits.{AreEdits, held_by_either};
 ghost use Rattle.jls_held.specs.MendedFiles.{MendedFile};
 ghost use Rattle.jls_held.specs.Mending.{edits_of, file_of};
-ghost use Rattle.jls_held.specs.HeldPictures.{AreReadingsHeld};
+ghost use Rattle.jls_held.specs.HeldPictures.{AreReadingsHeld, HasLinesBefore};
 ghost use Rattle.jls_held.specs.Judging.{AreMendedOf, AreTaken, FitsCopy, IsMendedOf};
 ghost use Rattle.jls_held.specs.Judging.{bytes_of, coding_of, codings_of, edited_copy_of, made_of};
 
@@ -121,6 +121,7 @@ pub fn judge(
     ensures taken { IfOk result (λ j. AreTaken (bytes_of copies.now) (codings_of proposals.items) (codings_of j.codings.items)) }
     ensures mended { IfOk result (λ j. AreMendedOf (bytes_of copies.now) (codings_of j.codings.items) (map file_of j.files.items)) }
     ensures held { IfOk result (λ j. AreReadingsHeld (map file_of j.files.items) j.held) }
+    ensures before { IfOk result (λ j. HasLinesBefore (map file_of j.files.items) j.held) }
 {
     let mut codings = Vec::new(alloc);
     let mut files = Vec::new(alloc);

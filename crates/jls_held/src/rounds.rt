@@ -1,12 +1,11 @@
 //! Held lines: from each piece those that follow held lines, until nothing follows any more.
 
-ghost use Rattle.std.specs.Prelude.{◌≡◌, ℕ, ◌≤◌, true, List, length, IfOk, OnOk};
-ghost use Rattle.std.specs.List.{AllByRecursion};
+ghost use Rattle.std.specs.Prelude.{◌≡◌, ◌≤◌, true, List, length, IfOk, OnOk};
 ghost use Rattle.jls_partial.specs.Partial.{holds as is_reading};
 ghost use Rattle.jls_held.specs.MendedFiles.{MendedFile};
-ghost use Rattle.jls_held.specs.HeldLines.{IsHeld};
-ghost use Rattle.jls_held.specs.HeldPictures.{AreReadingsHeld};
-ghost use Rattle.jls_held.specs.Chains.{reading_in, IsChain, AreFirstHeld, AreChains, ArePlacesHeld};
+ghost use Rattle.jls_held.specs.HeldLines.{IsHeldBehind};
+ghost use Rattle.jls_held.specs.HeldPictures.{is_among};
+ghost use Rattle.jls_held.specs.Chains.{reading_in, IsChain, AreChains, AreFirstKnown, ArePlacesKnown, AreKept, IsHeldPicture};
 
 use crate::chain::ChainLine;
 use jls_partial::{InsertFault, Partial};
@@ -28,14 +27,16 @@ fn is_taken(held: &Partial, component: u8, row: u16, samples: &[u16]) -> bool
     false
 }
 
-/// Takes the next line of a chain, whose earlier lines are held. It is held if all bytes of its code are, or if it was taken from another
+/// Takes the next line of a chain, whose earlier lines are taken. It is held if all bytes of its code are, or if it was taken from another
 /// piece. `false` says that it isn't known to be held, or doesn't fit the shape.
 fn take(held: &mut Partial, line: &ChainLine) -> Result<bool, AllocError>
     ensures shape { OnOk result (held.new.shape ≡ held.old.shape) }
     ensures marks { OnOk result (held.new.marks ≡ held.old.marks) }
-    ensures held { IfOk result (λ taken. (files : List MendedFile)
-        → (line.now.is_code_held ≡ true → IsHeld files (reading_in line.now)) → AreReadingsHeld files held.old
-        → AreReadingsHeld files held.new × (taken ≡ true → IsHeld files (reading_in line.now))) }
+    ensures kept { OnOk result (AreKept held.old held.new) }
+    ensures taken { IfOk result (λ taken. taken ≡ true → is_among held.new (reading_in line.now) ≡ true) }
+    ensures held { OnOk result ((files : List MendedFile)
+        → (line.now.is_code_held ≡ true → IsHeldBehind files (is_among held.old) (reading_in line.now))
+        → IsHeldPicture files held.old → IsHeldPicture files held.new) }
 {
     if !line.is_code_held {
         return Ok(is_taken(held, line.component, line.row, &line.samples));
@@ -52,8 +53,11 @@ fn advance(held: &mut Partial, chain: &[ChainLine], from: usize) -> Result<usize
     ensures from { IfOk result (λ next. from ≤ next) }
     ensures shape { OnOk result (held.new.shape ≡ held.old.shape) }
     ensures marks { OnOk result (held.new.marks ≡ held.old.marks) }
-    ensures held { IfOk result (λ next. (files : List MendedFile) → IsChain files chain.now → AreFirstHeld files chain.now from
-        → AreReadingsHeld files held.old → AreReadingsHeld files held.new × AreFirstHeld files chain.now next) }
+    ensures kept { OnOk result (AreKept held.old held.new) }
+    ensures taken { IfOk result (λ next. AreFirstKnown (is_among held.old) chain.now from
+        → AreFirstKnown (is_among held.new) chain.now next) }
+    ensures held { OnOk result ((files : List MendedFile) → IsChain files chain.now → AreFirstKnown (is_among held.old) chain.now from
+        → IsHeldPicture files held.old → IsHeldPicture files held.new) }
 {
     for at in from..chain.len() {
         if !take(held, &chain[at])? {
@@ -72,8 +76,11 @@ fn advance_each(
     requires { length places.old ≡ length chains.now }
     ensures shape { OnOk result (held.new.shape ≡ held.old.shape) }
     ensures marks { OnOk result (held.new.marks ≡ held.old.marks) }
-    ensures held { OnOk result ((files : List MendedFile) → AreChains files chains.now → ArePlacesHeld files chains.now places.old
-        → AreReadingsHeld files held.old → AreReadingsHeld files held.new × ArePlacesHeld files chains.now places.new) }
+    ensures kept { OnOk result (AreKept held.old held.new) }
+    ensures taken { OnOk result (ArePlacesKnown (is_among held.old) chains.now places.old
+        → ArePlacesKnown (is_among held.new) chains.now places.new) }
+    ensures held { OnOk result ((files : List MendedFile) → AreChains files chains.now
+        → ArePlacesKnown (is_among held.old) chains.now places.old → IsHeldPicture files held.old → IsHeldPicture files held.new) }
 {
     let mut moved = false;
     for i in 0..chains.len() {
@@ -103,8 +110,8 @@ pub(crate) fn take_held(
 ) -> Result<(), AllocError>
     ensures shape { OnOk result (held.new.shape ≡ held.old.shape) }
     ensures marks { OnOk result (held.new.marks ≡ held.old.marks) }
-    ensures held { OnOk result ((files : List MendedFile) → AreChains files chains.now → AreReadingsHeld files held.old
-        → AreReadingsHeld files held.new) }
+    ensures held { OnOk result ((files : List MendedFile) → AreChains files chains.now → IsHeldPicture files held.old
+        → IsHeldPicture files held.new) }
 {
     let mut places = vec![in alloc; 0usize; chains.len()]?;
     for _round in 0..line_count(chains) {

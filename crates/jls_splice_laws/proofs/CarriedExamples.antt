@@ -269,13 +269,29 @@ held_at_34 (suc place) l = absurd (omega (arith, l))
 line_held : (component line : ℕ) → component < 1 → line < 2 → IsHeld files (picture_reading pic component line)
 unfolding in_first in_second
 line_held zero zero k l =
-    in_piece mended (0, lit< tt, refl) in_first [] ((0 ∷ []) ∷ []) refl
-    (record { at_most = lit≤ tt; unread = outcomes_read.zero_read.unread; begins = outcomes_read.zero_read.begins })
-    (λ place b. held_at_31 place b.within) (λ s among. absurd (none_in s among)) (picture_reading pic 0 0) (0, lit< tt, refl)
+    in_piece (record {
+      file = mended;
+      among = (0, lit< tt, refl);
+      piece = in_first;
+      before = [];
+      lines = (0 ∷ []) ∷ [];
+      together = refl;
+      begins = record { at_most = lit≤ tt; unread = outcomes_read.zero_read.unread; begins = outcomes_read.zero_read.begins };
+      held = λ place b. held_at_31 place b.within;
+    })
+    (λ s among. absurd (none_in s among)) (picture_reading pic 0 0) (0, lit< tt, refl)
 line_held zero (suc zero) k l =
-    in_piece mended (0, lit< tt, refl) in_second [] ((255 ∷ []) ∷ []) refl
-    (record { at_most = lit≤ tt; unread = outcomes_read.largest_read.unread; begins = outcomes_read.largest_read.begins })
-    (λ place b. held_at_34 place b.within) (λ s among. absurd (none_in s among)) (picture_reading pic 0 1) (0, lit< tt, refl)
+    in_piece (record {
+      file = mended;
+      among = (0, lit< tt, refl);
+      piece = in_second;
+      before = [];
+      lines = (255 ∷ []) ∷ [];
+      together = refl;
+      begins = record { at_most = lit≤ tt; unread = outcomes_read.largest_read.unread; begins = outcomes_read.largest_read.begins };
+      held = λ place b. held_at_34 place b.within;
+    })
+    (λ s among. absurd (none_in s among)) (picture_reading pic 0 1) (0, lit< tt, refl)
 line_held zero (suc (suc line)) k l = absurd (omega (arith, l))
 line_held (suc component) line k l = absurd (omega (arith, k))
 

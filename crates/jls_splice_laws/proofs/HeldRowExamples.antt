@@ -132,6 +132,14 @@ held_at (suc (suc place)) l = absurd (omega (arith, l))
 -- each line of the row is held
 row_is_held : (r : Reading) → Contains held r → IsHeld (mended ∷ []) r
 row_is_held =
-    in_piece mended (0, lit< tt, refl) in_scan [] lines refl
-    (record { at_most = lit≤ tt; unread = reads_by_sample.unread; begins = reads_by_sample.begins }) (λ place b. held_at place b.within)
+    in_piece (record {
+      file = mended;
+      among = (0, lit< tt, refl);
+      piece = in_scan;
+      before = [];
+      lines = lines;
+      together = refl;
+      begins = record { at_most = lit≤ tt; unread = reads_by_sample.unread; begins = reads_by_sample.begins };
+      held = λ place b. held_at place b.within;
+    })
     (λ s among. absurd (none_in s among))

@@ -1,10 +1,10 @@
-use Rattle.std.proofs.Common.{◌≡◌, ℕ, ◌-◌, ◌/◌, ◌≤◌, List, ◌++◌, length, map, take, drop, sym, ap, ◌∙◌, subst, arith}
+use Rattle.std.proofs.Common.{◌≡◌, ℕ, ◌-◌, ◌/◌, List, length, map, take, drop, sym, ap, ◌∙◌, subst, arith}
 use Rattle.std.proofs.lemmas.List.{take-append-drop, take_all, length-drop}
 use Rattle.jls_marker.specs.declared.profile.Profile.TheVariants.{Wide}
 use Rattle.jls_bits.specs.declared.writer.BitPlace.{BitPlace}
 use Rattle.jls_copy.specs.IntervalOf.{interval_of}
 use Rattle.jls_held.specs.Mending.{file_of}
-use Rattle.jls_held.specs.FilePieces.{lines_of, IsPieceOf}
+use Rattle.jls_held.specs.FilePieces.{lines_of}
 use Rattle.jls_held.specs.Chains.{AreCodeEnds, place_of}
 use Rattle.jls_held.proofs.RowPlaces.{places_are, first_bytes}
 use Rattle.jls_held.proofs.code_ends.places_of_rows.Goals as goal

@@ -4,7 +4,7 @@ use Rattle.std.specs.List.{AllZip}
 use Rattle.std.specs.Vec.Iter.{into_iter_items}
 use Rattle.jls_held.specs.MendedFiles.{MendedFile}
 use Rattle.jls_held.specs.Mending.{file_of}
-use Rattle.jls_held.specs.HeldPictures.{AreReadingsHeld}
+use Rattle.jls_held.specs.HeldPictures.{AreReadingsHeld, HasLinesBefore}
 use Rattle.jls_held.specs.Judging.{EditedCopy, AreMendedOf, AreTaken, IsMendedOf, bytes_of, coding_of, codings_of, none, taken, left_out}
 use Rattle.jls_held.proofs.judging.judge.Goals as goal
 
@@ -75,3 +75,7 @@ returns-clause-taken c =
 pub returns-clause-held : goal.returns-clause-held
 returns-clause-held c =
     subst (λ files. AreReadingsHeld (map file_of files) c.in_ok-held.held) c.deref-2.ensures.value c.in_ok-held.ensures.held
+
+pub returns-clause-before : goal.returns-clause-before
+returns-clause-before c =
+    subst (λ files. HasLinesBefore (map file_of files) c.in_ok-held.held) c.deref-2.ensures.value c.in_ok-held.ensures.before

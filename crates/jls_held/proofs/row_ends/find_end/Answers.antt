@@ -1,4 +1,4 @@
-use Rattle.std.proofs.Common.{◌≡◌, ℕ, ◌+◌, ◌-◌, ◌/◌, ◌<◌, ◌≤◌, List, ◌++◌, take, drop, refl, sym, ap, ◌∙◌, subst, arith, Some}
+use Rattle.std.proofs.Common.{◌≡◌, ℕ, ◌+◌, ◌-◌, ◌/◌, ◌<◌, ◌++◌, take, drop, refl, ap, ◌∙◌, subst, arith, Some}
 use Rattle.std.specs.Option.{option_map}
 use Rattle.jls_pixel.specs.PixelBytes.{PixelBytes, pixels_asked}
 use Rattle.jls_piece.specs.Lines.{pixel_piece}

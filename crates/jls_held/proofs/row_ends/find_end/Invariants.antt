@@ -1,4 +1,4 @@
-use Rattle.std.proofs.Common.{◌≡◌, ◌<◌, ◌≤◌, ◌-◌, length, take, Some}
+use Rattle.std.proofs.Common.{◌≡◌, ◌<◌, ◌≤◌, ◌-◌, take, Some}
 use Rattle.jls_pixel.specs.PixelBytes.{pixels_asked}
 use Rattle.jls_piece.specs.Lines.{pixel_piece}
 use Rattle.jls_held.specs.RowEnds.{HasAtMost, HasMore}

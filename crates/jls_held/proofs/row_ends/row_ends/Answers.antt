@@ -1,4 +1,4 @@
-use Rattle.std.proofs.Common.{◌≡◌, ℕ, ◌+◌, ◌-◌, ◌<◌, ◌≤◌, List, [], ◌++◌, length, take, drop, refl, sym, ap, ◌∙◌, subst, arith, Some}
+use Rattle.std.proofs.Common.{◌≡◌, ℕ, ◌+◌, ◌-◌, [], ◌++◌, length, take, drop, refl, ap, ◌∙◌, arith, Some}
 use Rattle.std.specs.Option.{option_map}
 use Rattle.jls_values.specs.Params.{CodingParameters}
 use Rattle.jls_pixel.specs.PixelBytes.{PixelBytes}

@@ -1,6 +1,6 @@
 use Rattle.std.proofs.Common.{ap, ◌∙◌}
 use Rattle.jls_pixel.specs.declared.cut_end.PixelCutEnd.TheVariants.{Head}
-use Rattle.jls_held.proofs.WholeRows.{by_whole, by_broken, by_long, by_none}
+use Rattle.jls_held.proofs.WholeRows.{by_whole, by_broken, by_long}
 use Rattle.jls_held.proofs.row_ends.whole_rows.Goals as goal
 
 -- the rows that the bytes read as
