@@ -209,7 +209,7 @@ fn best_attempt(
         };
         let all = code.followed_by(alloc, rest)?;
         let attempt = Attempt {
-            read: read_lines_on(begun, &piece.interval, &all)?,
+            read: read_lines_on(begun, piece, &all)?,
             shift,
         };
         let is_better = match &best {

@@ -57,7 +57,7 @@ fn add_mixed(
         };
         let mut all = Vec::from_slice(alloc, code.bytes.get(..place).unwrap_or(&[]))?;
         all.extend_from_slice(rest)?;
-        let read = read_lines(alloc, interval, &all)?;
+        let read = read_lines(alloc, &chain.piece, &all)?;
         if read.closes && are_as_settled(picture, interval, &read.lines) {
             for (line, samples) in read.lines.into_iter().enumerate() {
                 let place = interval.place(line);

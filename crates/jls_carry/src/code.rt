@@ -5,6 +5,7 @@
 
 use crate::interval::Interval;
 use crate::line_ends::LineEnds;
+use crate::pieces::Piece;
 use crate::pixel_front::pixel_front;
 use jls_bits::BitPlace;
 use jls_copy::next_cut;
@@ -184,7 +185,7 @@ pub(crate) fn front_of(
 #[derive(Drop)]
 pub(crate) struct ReadLines {
     pub(crate) lines: Vec<Vec<u16>>,
-    /// Whether they are all lines of the interval, and the bytes end with them.
+    /// Whether they are all lines of the piece, and its bytes end with them.
     pub(crate) closes: bool,
 }
 
@@ -261,7 +262,7 @@ impl Begun {
 
     /// Goes on byte by byte, and answers the most lines that the bytes begin with. Where the last bits can't go on, they are the lines of
     /// fewer bytes.
-    fn last_lines(self, interval: &Interval, bytes: &[u8]) -> Result<ReadLines, AllocError> {
+    fn last_lines(self, piece: &Piece, bytes: &[u8]) -> Result<ReadLines, AllocError> {
         let mut decoder = self.decoder;
         let mut lines = finished_lines(&decoder)?;
         for byte in bytes.iter().skip(self.at) {
@@ -272,7 +273,7 @@ impl Begun {
                     closes: false,
                 });
             }
-            if count_finished(&decoder, interval) > lines.len() {
+            if count_finished(&decoder, &piece.interval) > lines.len() {
                 let more = finished_lines(&decoder)?;
                 if more.len() > lines.len() {
                     lines = more;
@@ -281,7 +282,7 @@ impl Begun {
         }
         // By sample the last rows are read where the bytes end.
         let (lines, closes) = match decoder.finish_cut()? {
-            PieceCutEnd::Whole(all) => (all, true),
+            PieceCutEnd::Whole(all) => (all, piece.ends),
             PieceCutEnd::Head(all, _) if all.len() > lines.len() => (all, false),
             PieceCutEnd::Head(_, _) => (lines, false),
         };
@@ -295,11 +296,10 @@ impl Begun {
 /// How many bytes a decoder is given at a time, first and then.
 const STEPS: [usize; 2] = [4096, 64];
 
-/// The lines of an interval that bytes begin with, up to the first place that can end a piece. They begin with those that a decoder was
-/// given.
+/// The lines of a piece that bytes begin with, up to the first place that can end one. They begin with those that a decoder was given.
 pub(crate) fn read_lines_on(
     begun: &Begun,
-    interval: &Interval,
+    piece: &Piece,
     bytes: &[u8],
 ) -> Result<ReadLines, AllocError> {
     let end = next_cut(bytes, begun.at.saturating_sub(1)).unwrap_or(bytes.len());
@@ -308,14 +308,14 @@ pub(crate) fn read_lines_on(
     for step in STEPS {
         begun = begun.go_on(bytes, step)?;
     }
-    begun.last_lines(interval, bytes)
+    begun.last_lines(piece, bytes)
 }
 
-/// The lines of an interval that bytes begin with, up to the first place that can end a piece.
+/// The lines of a piece that bytes begin with, up to the first place that can end one.
 pub(crate) fn read_lines(
     alloc: Global,
-    interval: &Interval,
+    piece: &Piece,
     bytes: &[u8],
 ) -> Result<ReadLines, AllocError> {
-    read_lines_on(&Begun::new(alloc, interval), interval, bytes)
+    read_lines_on(&Begun::new(alloc, &piece.interval), piece, bytes)
 }

@@ -21,7 +21,7 @@ pub(crate) struct CodedLines {
     pub(crate) code: Coded,
     /// Where the piece has these bytes.
     pub(crate) shift: Shift,
-    /// Whether they are all its lines.
+    /// Whether they are all its lines, and its bytes end with them.
     pub(crate) is_whole: bool,
 }
 
@@ -96,7 +96,7 @@ pub(crate) fn coded_lines(
         readings,
         code,
         shift,
-        is_whole,
+        is_whole: is_whole && piece.ends,
     }))
 }
 

@@ -42,7 +42,7 @@ impl FirstLines {
             if piece.number != 0 {
                 continue;
             }
-            let read = read_lines(alloc, &piece.interval, bytes_of(copy, piece))?;
+            let read = read_lines(alloc, piece, bytes_of(copy, piece))?;
             let mut given: Vec<Vec<Vec<u16>>> = Vec::new(alloc);
             for _ in 0..self.components.len() {
                 given.push(Vec::new(alloc))?;

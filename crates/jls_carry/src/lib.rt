@@ -107,7 +107,7 @@ use crate::closing::has_contradiction;
 use crate::codes::Codes;
 use crate::codings::{CodedCopies, MendedCodings, mend_codings};
 use crate::layouts::{Layouts, layouts_of};
-use crate::lost_headers::with_lost_headers;
+use crate::lost_headers::{FoundCopy, with_lost_headers};
 use crate::picture::Picture;
 use crate::pieces::Layout;
 use crate::rivals::{has_rival, reads_whole};
@@ -139,16 +139,27 @@ fn is_repeated(copies: &[&[u8]], number: usize) -> bool {
 fn with_found<'a>(
     alloc: Global,
     copies: &[&'a [u8]],
-    found: &'a [Option<Vec<u8>>],
+    found: &'a [Option<FoundCopy>],
 ) -> Result<Vec<&'a [u8]>, AllocError> {
     let mut read: Vec<&'a [u8]> = Vec::new(alloc);
     for (copy, found) in copies.iter().zip(found) {
         match found {
             None => read.push(copy)?,
-            Some(found) => read.push(found)?,
+            Some(found) => read.push(&found.bytes)?,
         }
     }
     Ok(read)
+}
+
+/// Notes in each layout before which headers that were put in other bytes can stand than those of the scan.
+fn open_ends(layouts: &mut [Option<Layout>], found: &[Option<FoundCopy>]) {
+    for (layout, found) in layouts.iter_mut().zip(found) {
+        if let (Some(layout), Some(found)) = (layout, found) {
+            for place in found.places.iter() {
+                layout.open_end(*place);
+            }
+        }
+    }
 }
 
 /// The copies, before anything is said. They are read with the headers that they lost.
@@ -219,9 +230,10 @@ pub fn carry(
     let read = with_found(alloc, copies, &found)?;
     let Layouts {
         lines,
-        layouts,
+        mut layouts,
         are_own,
     } = layouts_of(alloc, &read, codings)?;
+    open_ends(&mut layouts, &found);
     let coded = CodedCopies {
         copies,
         codings,

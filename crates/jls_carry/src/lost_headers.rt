@@ -19,6 +19,14 @@ const BY_LINE: u8 = 1;
 
 const BY_SAMPLE: u8 = 2;
 
+/// A copy with headers that were found.
+#[derive(Drop)]
+pub(crate) struct FoundCopy {
+    pub(crate) bytes: Vec<u8>,
+    /// Where the headers of later scans were put in. Before them other bytes can stand than those of the scan before.
+    pub(crate) places: Vec<usize>,
+}
+
 /// A segment without its payload: the marker with this code, and the length of so many bytes behind it.
 fn segment(alloc: Global, code: u8, length: u16) -> Result<Vec<u8>, AllocError> {
     let mut bytes = Vec::new(alloc);
@@ -129,14 +137,14 @@ fn offsets_of(layout: &Layout, component: usize) -> [usize; 2] {
     offsets
 }
 
-/// A copy with the header of a scan that it lost, in place of what stands there; `None` where it isn't found.
+/// A copy with the header of a scan that it lost, in place of what stands there, and its place; `None` where it isn't found.
 fn with_scan(
     alloc: Global,
     copy: &[u8],
     layout: &Layout,
     component: usize,
     lines: &FirstLines,
-) -> Result<Option<Vec<u8>>, AllocError> {
+) -> Result<Option<(Vec<u8>, usize)>, AllocError> {
     let ids = layout.shape.ids();
     let (Some(id), Some(begin)) = (ids.get(component), copy.get(..layout.data)) else {
         return Ok(None);
@@ -162,7 +170,7 @@ fn with_scan(
         None => false,
         Some(now) => now.scans.len() > layout.scans.len(),
     };
-    Ok(if has_more { Some(found) } else { None })
+    Ok(if has_more { Some((found, at)) } else { None })
 }
 
 // The first headers -----------------------------------------------------------------------------------------------------
@@ -177,6 +185,22 @@ fn headers_before<'a>(copy: &'a [u8], layout: &Layout) -> &'a [u8] {
     copy.get(..layout.data.saturating_sub(size)).unwrap_or(&[])
 }
 
+/// A copy with first headers that fit it.
+#[derive(Drop)]
+struct Fitting {
+    bytes: Vec<u8>,
+    /// How many bytes it has where the code of known lines has them.
+    same: usize,
+}
+
+/// How many bytes of a code stand at the same place of the copy.
+fn count_same(code: &[u8], own: &[u8]) -> usize {
+    code.iter()
+        .zip(own)
+        .filter(|(byte, own)| **byte == **own)
+        .count()
+}
+
 /// A copy with these first headers, if its scan data are found under them. Fill bytes stand before the first segment where there is more
 /// room (T.81 B.1.1.2).
 fn with_headers(
@@ -184,7 +208,7 @@ fn with_headers(
     copy: &[u8],
     headers: &[u8],
     lines: &FirstLines,
-) -> Result<Option<Vec<u8>>, AllocError> {
+) -> Result<Option<Fitting>, AllocError> {
     let Some(interval) = last_interval(alloc, headers)? else {
         return Ok(None);
     };
@@ -204,11 +228,15 @@ fn with_headers(
     }
     found.extend_from_slice(segments)?;
     found.extend_from_slice(rest)?;
-    Ok(Some(found))
+    Ok(Some(Fitting {
+        bytes: found,
+        same: count_same(&code, rest),
+    }))
 }
 
 /// A copy that has no headers with those that it may have had, beside another copy: the same but for the interleaving, or a frame header
-/// alone before the scan header.
+/// alone before the scan header. It is those by which it has most bytes of known lines. The first line of a component has one code however
+/// lines are interleaved.
 fn with_first_headers(
     alloc: Global,
     copy: &[u8],
@@ -220,6 +248,7 @@ fn with_first_headers(
     let in_frame = ids.len();
     let frame = frame_header(alloc, &layout.shape)?;
     let begins: [&[u8]; 2] = [headers_before(other, layout), &frame];
+    let mut best: Option<Fitting> = None;
     for begin in begins {
         for interleave in [ONE_COMPONENT, BY_LINE, BY_SAMPLE] {
             let scanned = if interleave == ONE_COMPONENT {
@@ -232,13 +261,25 @@ fn with_first_headers(
             }
             let scan = scan_header(alloc, scanned, interleave)?;
             let headers = joined(alloc, begin, &scan)?;
-            let found = with_headers(alloc, copy, &headers, lines)?;
-            if found.is_some() {
-                return Ok(found);
+            let Some(fitting) = with_headers(alloc, copy, &headers, lines)? else {
+                continue;
+            };
+            let is_better = match &best {
+                None => true,
+                Some(best) => fitting.same > best.same,
+            };
+            if is_better {
+                best = Some(fitting);
             }
         }
     }
-    Ok(None)
+    Ok(match best {
+        None => None,
+        Some(fitting) => {
+            let Fitting { bytes, .. } = fitting;
+            Some(bytes)
+        }
+    })
 }
 
 // Both ------------------------------------------------------------------------------------------------------------------
@@ -250,7 +291,7 @@ fn with_lost(
     layouts: &[Option<Layout>],
     number: usize,
     donor: usize,
-) -> Result<Option<Vec<u8>>, AllocError> {
+) -> Result<Option<FoundCopy>, AllocError> {
     let (Some(copy), Some(other), Some(Some(layout))) = (
         copies.get(number),
         copies.get(donor),
@@ -260,14 +301,19 @@ fn with_lost(
     };
     let in_frame = layout.shape.ids().len();
     let lines = FirstLines::of(alloc, copies, layouts, number, in_frame)?;
-    let mut found: Option<Vec<u8>> = None;
+    let mut found: Option<FoundCopy> = None;
     if let Some(None) = layouts.get(number) {
-        found = with_first_headers(alloc, copy, other, layout, &lines)?;
+        if let Some(bytes) = with_first_headers(alloc, copy, other, layout, &lines)? {
+            found = Some(FoundCopy {
+                bytes,
+                places: Vec::new(alloc),
+            });
+        }
     }
     for _ in 1..in_frame {
         let bytes: &[u8] = match &found {
             None => copy,
-            Some(found) => found,
+            Some(found) => &found.bytes,
         };
         let Some(now) = layout_of(alloc, bytes)? else {
             break;
@@ -275,11 +321,21 @@ fn with_lost(
         let Some(component) = lost_component(&now) else {
             break;
         };
-        let more = with_scan(alloc, bytes, &now, component, &lines)?;
-        if more.is_none() {
+        let Some((more, place)) = with_scan(alloc, bytes, &now, component, &lines)? else {
             break;
-        }
-        found = more;
+        };
+        let mut places = match found {
+            None => Vec::new(alloc),
+            Some(found) => {
+                let FoundCopy { places, .. } = found;
+                places
+            }
+        };
+        places.push(place)?;
+        found = Some(FoundCopy {
+            bytes: more,
+            places,
+        });
     }
     Ok(found)
 }
@@ -289,7 +345,7 @@ fn with_lost(
 pub(crate) fn with_lost_headers(
     alloc: Global,
     copies: &[&[u8]],
-) -> Result<Vec<Option<Vec<u8>>>, AllocError> {
+) -> Result<Vec<Option<FoundCopy>>, AllocError> {
     let mut layouts = Vec::new(alloc);
     for copy in copies {
         layouts.push(layout_of(alloc, copy)?)?;

@@ -106,7 +106,7 @@ fn closes_behind(
         return Ok(true);
     };
     let bytes = with_own_bytes(alloc, copy, index, piece, &code, 0)?;
-    Ok(read_lines(alloc, &piece.interval, &bytes)?.closes)
+    Ok(read_lines(alloc, piece, &bytes)?.closes)
 }
 
 /// The piece at whose last known line the mended file is best cut. More lines stand whole in it than in all pieces that read.

@@ -24,6 +24,8 @@ pub(crate) struct Piece {
     pub(crate) end: usize,
     /// Whether it begins where these bytes do. It is unknown where one begins that follows a lost marker.
     pub(crate) begins: bool,
+    /// Whether these bytes end with it. Before a header that was put in other bytes can stand.
+    pub(crate) ends: bool,
 }
 
 /// What the headers and the markers of a copy say.
@@ -229,6 +231,7 @@ impl Cutting<'_> {
                     start,
                     end,
                     begins: number == first,
+                    ends: true,
                 })?;
             }
         }
@@ -325,6 +328,21 @@ fn are_same_scans(first: &ScanPlan, second: &ScanPlan) -> bool {
 }
 
 impl Layout {
+    /// Notes that it is unknown where the piece ends that stands before this place.
+    pub(crate) fn open_end(&mut self, place: usize) {
+        let mut start = 0usize;
+        for piece in self.pieces.iter() {
+            if piece.start <= place {
+                start = start.max(piece.start);
+            }
+        }
+        for piece in self.pieces.iter_mut() {
+            if piece.start == start {
+                piece.ends = false;
+            }
+        }
+    }
+
     /// Whether the headers of both say the same.
     pub(crate) fn says_as(&self, other: &Layout) -> bool {
         if self.shape != other.shape || self.scans.len() != other.scans.len() {

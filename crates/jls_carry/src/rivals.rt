@@ -26,7 +26,7 @@ fn own_picture(
 ) -> Result<Option<Picture>, AllocError> {
     let mut picture = Picture::new(alloc, lines)?;
     for piece in copy.pieces.iter() {
-        let read = read_lines(alloc, &piece.interval, bytes_of(copy.bytes, piece))?;
+        let read = read_lines(alloc, piece, bytes_of(copy.bytes, piece))?;
         if !read.closes {
             return Ok(None);
         }

@@ -113,7 +113,7 @@ fn best_reading(
             continue;
         }
         let all = code.followed_by(alloc, rest)?;
-        let read = read_lines_on(&begun, &piece.interval, &all)?;
+        let read = read_lines_on(&begun, piece, &all)?;
         let is_better = match &best {
             None => true,
             Some(best) => {
