@@ -1,12 +1,13 @@
 """Checks of damage that several copies share, and of copies that end otherwise: nothing false comes of it."""
 from __future__ import annotations
 
+import os
 import random
 import types
 from collections.abc import Iterator
 from typing import Any
 
-from dicom_files import Bench, File, changed, element, with_value
+from dicom_files import Bench, File, called, changed, element, get, with_value
 from dicom_rules import csa_header
 from jls_tools.dicom.axis.align import Copy
 from jls_tools.dicom.evidence import alone, doubtful
@@ -58,6 +59,24 @@ def checks_of_sectors_lost_alike(bench: Bench, made: File, rng: random.Random) -
     copies = [changed(text, in_frame(made, text, at), *([(first, b"Doe^Jane")] if at else [])) for at in range(3)]
     status, out, printed, _, _ = bench.mend(copies)
     yield f"two of three agree ({status}, {printed})", (status, out == changed(text, (first, b"Doe^Jane"))) == (0, True)
+
+
+def checks_of_named_twice(bench: Bench, made: File, rng: random.Random) -> Iterator[Check]:
+    """A damaged file that is named twice, by its name or by a link, is one copy: it outvotes no other one."""
+    true, begin = with_value(made, bytes(rng.choice(b"abcdefgh") for _ in range(600)))
+    damaged = changed(true, in_frame(made, true, 0), (begin + 40, b"Doe^Jane"))
+    one, other, link = (f"{bench.folder}/{name}" for name in ("named-twice.dcm", "beside.dcm", "link.dcm"))
+    for name, data in ((one, damaged), (other, changed(true, in_frame(made, true, 1)))):
+        with open(name, "wb") as file:
+            file.write(data)
+    os.symlink(one, link)
+    for again in (one, link):
+        out = f"{bench.folder}/of-{os.path.basename(again)}"
+        status, printed, faults = called("mend", out, one, again, other)
+        is_told = f"left out {again}: it is the file {one} again\n" in printed
+        yield f"named twice ({status}, {printed}{faults})", (status, is_told, os.path.exists(out)) == (1, True, False)
+    status, printed, faults = called("mend", "--header", link, f"{bench.folder}/by-link.dcm", one, link, other)
+    yield f"named twice, and --header ({status}, {printed}{faults})", status == 0 and get(f"{bench.folder}/by-link.dcm") is not None
 
 
 def checks_of_decided_beside(bench: Bench, made: File, rng: random.Random) -> Iterator[Check]:
@@ -224,4 +243,4 @@ def checks_of_alone_in_lost_sectors(bench: Bench, made: File) -> Iterator[Check]
 
 TOGETHER = [checks_of_sectors_lost_alike, checks_of_decided_beside, checks_of_other_ends, checks_of_sectors_twice]
 TOGETHER += [checks_of_others_in_a_lost_sector, checks_of_others_cut_in_a_lost_sector]
-TOGETHER += [checks_of_changes, checks_of_lost_beside, checks_of_alone_in_lost_sectors]
+TOGETHER += [checks_of_changes, checks_of_lost_beside, checks_of_alone_in_lost_sectors, checks_of_named_twice]

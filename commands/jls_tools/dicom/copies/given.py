@@ -1,6 +1,7 @@
 """The copies of a call as they are given, and what is done to each before they are laid side by side."""
 from __future__ import annotations
 
+import os
 from collections.abc import Sequence
 from typing import Optional
 
@@ -34,15 +35,17 @@ class Given:
         self.options = options
         self.programs = programs
         self.result = result
-        self.is_one = len(paths) == 1
         self.texts = [read(path) for path in paths]
         self.bad = self.named_as_bad()
+        repeated = self.leave_out_repeated()
+        self.is_one = len(self.paths) == 1
         self.look_at_kinds()
         try:
             self.instances = Instances(self.texts, options.same)
         except TwoInstances as fault:
             raise Refused(f"{fault}; --same takes them as copies of one") from fault
         self.witnesses = [each for each in map(self.as_witness, self.uncompressed) if each is not None]
+        result.left_out[:0] = repeated
         result.left_out += [(self.paths[at], why) for at, why in sorted(self.instances.left_out.items())]
         self.look_at_versions()
 
@@ -61,6 +64,22 @@ class Given:
                 count = "a place" if behind == 1 else f"{behind} places"
                 self.result.notes.append(f"{path} names {count} behind the end of {self.paths[at]}, which has {len(self.texts[at])} bytes")
         return found
+
+    def leave_out_repeated(self) -> list[tuple[str, str]]:
+        """Takes each file once, also where links name it, as it says nothing more the second time. Answers the others, and why."""
+        first: dict[tuple[int, int], int] = {}
+        left_out: dict[int, str] = {}
+        for at, path in sorted(enumerate(self.paths), key=lambda each: (each[1] != self.options.header, each[0])):
+            seen = os.stat(path)
+            kept = first.setdefault((seen.st_dev, seen.st_ino), at)
+            if kept != at:
+                self.bad[kept] = merged([*self.bad[kept], *self.bad[at]])
+                left_out[at] = f"it is the file {self.paths[kept]} again"
+        repeated = [(self.paths[at], why) for at, why in sorted(left_out.items())]
+        self.paths = [path for at, path in enumerate(self.paths) if at not in left_out]
+        self.texts = [text for at, text in enumerate(self.texts) if at not in left_out]
+        self.bad = [ranges for at, ranges in enumerate(self.bad) if at not in left_out]
+        return repeated
 
     def look_at_kinds(self) -> None:
         """Leaves out copies of another transfer syntax, undoes transfers as text, cuts tails. Refuses what has no DICOM file of JPEG-LS."""
