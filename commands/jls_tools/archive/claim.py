@@ -17,6 +17,15 @@ def folder_named(path: str) -> str:
     return os.path.realpath(path)
 
 
+def backup_named(path: str) -> str:
+    """The true path of a tree. One with nothing in it is refused: its disk may not be mounted, and what runs before made of it would go."""
+    tree = folder_named(path)
+    with os.scandir(tree) as entries:
+        if next(entries, None) is None:
+            raise Refused(f"{printable(path)} is empty: is its disk mounted?", 4)
+    return tree
+
+
 def is_within(path: str, folder: str) -> bool:
     return path == folder or path.startswith(folder.rstrip("/") + "/")
 

@@ -41,7 +41,7 @@ class Trees:
     def __init__(self, options: Any, programs: Programs) -> None:
         self.options = options
         self.out = os.path.realpath(options.out)
-        self.trees = [claim.folder_named(tree) for tree in options.trees]
+        self.trees = [claim.backup_named(tree) for tree in options.trees]
         claim.check_places(self.out, self.trees)
         self.places = Places(self.out)
         claim.claim(self.places, "trees")

@@ -55,11 +55,21 @@ def run(paths: list[str], out: str, options: MendOptions, programs: Programs, re
     if options.header is not None and options.header not in paths:
         raise Refused(f"--header names {options.header}, which is none of the copies", 2)
     given = Given(paths, options, programs, result)
-    folder = tempfile.mkdtemp(prefix=".jls-dicom-", dir=os.path.dirname(os.path.abspath(out)))
+    folder = made_beside(out)
     try:
         Writing(out, given, frames_of(given, FrameMender(programs, folder, options))).write()
     finally:
         shutil.rmtree(folder, ignore_errors=True)
+
+
+def made_beside(out: str) -> str:
+    """A new hidden folder beside OUT. A fault names the folder that OUT is to stand in."""
+    beside = os.path.dirname(os.path.abspath(out))
+    try:
+        return tempfile.mkdtemp(prefix=".jls-dicom-", dir=beside)
+    except OSError as fault:
+        fault.filename = beside
+        raise
 
 
 def frames_of(given: Given, mender: FrameMender) -> MendedFrames:

@@ -8,7 +8,7 @@ import shutil
 import sys
 import tempfile
 from collections.abc import Sequence
-from typing import NoReturn
+from typing import NoReturn, Optional
 
 from jls_tools import partial_picture, signals
 from jls_tools.file_names import printable
@@ -68,13 +68,13 @@ def scale(text: str) -> int:
 def parser() -> Parser:
     made = Parser(
         prog="jls-view",
-        usage="jls-view [OPTIONS] IN.. OUT.png",
+        usage="jls-view [OPTIONS] IN.. [OUT.png]",
         description=TEXT,
         formatter_class=argparse.RawDescriptionHelpFormatter,
         allow_abbrev=False,
     )
-    what = "a partial picture, copies, or DICOM files; then the picture with its holes"
-    made.add_argument("files", nargs="*", metavar="IN.. OUT.png", help=what)
+    what = "a partial picture, copies, or DICOM files; the last of several names is OUT.png, the picture with its holes"
+    made.add_argument("files", nargs="*", metavar="IN.. [OUT.png]", help=what)
     made.add_argument("--window", nargs=2, type=number, metavar=("CENTRE", "WIDTH"), help="which samples are shown, as DICOM defines it")
     made.add_argument("--signed", action="store_true", help="samples are signed, as in some DICOM files; the header of one is believed")
     made.add_argument("--frame", type=count, default=0, metavar="N", help="which frame of a DICOM file, counted from 0")
@@ -94,6 +94,8 @@ def check(words: argparse.Namespace) -> None:
         raise Unusable("nothing to do: name OUT.png, --mask or --map", 2)
     if words.window and words.window[1] < 1:
         raise Unusable("the WIDTH of --window is 1 or more", 2)
+    if words.out and words.mask and os.path.realpath(words.out) == os.path.realpath(words.mask):
+        raise Unusable(f"{printable(words.out)} is named as OUT.png and by --mask", 2)
     for place in (words.out, words.mask):
         if place and os.path.exists(place):
             if any(os.path.exists(source) and os.path.samefile(place, source) for source in words.sources):
@@ -126,6 +128,15 @@ def draw(words: argparse.Namespace, pictures: Sequence[PartialPicture], is_signe
             print(canvas.map_line(picture, component))
 
 
+def made_beside(folder: Optional[str]) -> str:
+    """A new hidden folder in this one. A fault names the one that was told."""
+    try:
+        return tempfile.mkdtemp(prefix=".jls-view-", dir=folder)
+    except OSError as fault:
+        fault.filename = folder
+        raise
+
+
 def run(words: argparse.Namespace) -> int:
     if words.version:
         programs = Programs()
@@ -136,7 +147,7 @@ def run(words: argparse.Namespace) -> int:
     beside = os.path.dirname(os.path.abspath(words.out or words.mask)) if words.out or words.mask else None
     folder = None
     try:
-        folder = tempfile.mkdtemp(prefix=".jls-view-", dir=beside)
+        folder = made_beside(beside)
         if len(words.sources) > 1:
             pictures, is_signed = sources.read_splice(words.sources, words.frame, folder)
         else:

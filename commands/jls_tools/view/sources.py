@@ -2,6 +2,7 @@
 from __future__ import annotations
 
 import os
+import re
 from collections.abc import Sequence
 
 from jls_tools import partial_picture
@@ -14,6 +15,8 @@ from jls_tools.frames.mending import FrameMender
 from jls_tools.partial_picture import PartialPicture
 from jls_tools.programs import Programs
 from jls_tools.view.splice import Splice
+
+PARTIAL = b"JLSP"  # a partial picture begins so
 
 
 class NoPicture(Exception):
@@ -44,7 +47,7 @@ def read(path: str, frame: int, folder: str) -> tuple[PartialPicture, bool]:
     shown = printable(path)
     with open(path, "rb") as file:
         begin = file.read(4)
-    if begin == b"JLSP":
+    if begin == PARTIAL:
         try:
             return partial_picture.read(path), False
         except partial_picture.NotAPartialPicture as fault:
@@ -74,13 +77,15 @@ def put(path: str, frame: int, folder: str, name: str) -> tuple[bool, str]:
 
 def read_splice(paths: Sequence[str], frame: int, folder: str) -> tuple[list[PartialPicture], bool]:
     """(the pictures of several copies and of what came of them, whether samples are signed)."""
+    for path in paths:
+        with open(path, "rb") as file:
+            if file.read(4) == PARTIAL:
+                raise NoPicture(f"{printable(path)} is a partial picture, which is drawn alone: jls-salvage join joins several")
     names = [f"copy-{number}" for number in range(len(paths))]
     put_in = [put(path, frame, folder, name) for path, name in zip(paths, names)]
     splice = Splice(names, folder)
     pictures = list(splice.panels())
     if not pictures:
         faults = splice.faults or "jls-splice: it gives no picture"
-        for name, (_, shown) in zip(names, put_in):
-            faults = faults.replace(name, shown)
-        raise NoPicture(faults, splice.status)
+        raise NoPicture(re.sub(r"copy-(\d+)", lambda found: put_in[int(found[1])][1], faults), splice.status)
     return pictures, any(is_signed for is_signed, _ in put_in)
