@@ -23,14 +23,17 @@ class Promise(enum.IntEnum):
 
 
 class Differ(NamedTuple):
-    """A place where the copies differ, as the first copy has it."""
+    """A place where the copies differ, as the first copy has it. With `bad`, copies are those whose bad places were filled."""
 
     offset: int
     length: int
 
 
 class Edit(NamedTuple):
-    """A place of a copy, by its number from 0, where its mended file has `new` bytes in place of `length`."""
+    """A place of a copy, by its number from 0, where its mended file has `new` bytes in place of `length`.
+
+    With `bad`, it is a place of the copy whose bad places were filled: the copy that was given may have other bytes there.
+    """
 
     copy: int
     offset: int
