@@ -20,10 +20,18 @@ def folder_named(path: str) -> str:
 def backup_named(path: str) -> str:
     """The true path of a tree. One with nothing in it is refused: its disk may not be mounted, and what runs before made of it would go."""
     tree = folder_named(path)
-    with os.scandir(tree) as entries:
-        if next(entries, None) is None:
-            raise Refused(f"{printable(path)} is empty: is its disk mounted?", 4)
+    if is_empty(tree):
+        raise Refused(f"{printable(path)} is empty: is its disk mounted?", 4)
     return tree
+
+
+def is_empty(folder: str) -> bool:
+    """Whether a folder has nothing in it. One that can't be read counts as full: its row says so."""
+    try:
+        with os.scandir(folder) as entries:
+            return next(entries, None) is None
+    except OSError:
+        return False
 
 
 def is_within(path: str, folder: str) -> bool:
