@@ -149,7 +149,7 @@ def checks_of_elements_lost(bench: Bench, made: File, rng: random.Random) -> Ite
 
 def checks_of_put_in_beside_losses(bench: Bench, made: File, rng: random.Random) -> Iterator[Check]:
     """Bytes put into two of three copies, and what the third has there is lost, or its header is."""
-    true, first, second = made.bytes, *made.items[:2]
+    true, first, second, third = made.bytes, *made.items[:3]
     text, begin = with_value(made, b"".join(b"sSlice[%d].dTra = %d\n" % (at, at * 7) for at in range(200)))
     inside = text.index(made.frames[1])
     rest = changed(text, (inside, bytes(len(text) - inside)))
@@ -165,6 +165,10 @@ def checks_of_put_in_beside_losses(bench: Bench, made: File, rng: random.Random)
     header = [put(true, begin + 3, b"anna^maria"), changed(true, (first + 70, bytes(8))), changed(true, (second + 70, bytes(8)))]
     yield told(bench, "a text of ten letters more, and two copies lack them", header, true)
     yield told(bench, "in the preamble", [put(true, 9, rng.randbytes(64)), zeros], true)
+    many = put(true[: second + 60] + true[second + 90 :], third + 30, b"\x91\x13\x77")
+    other = put(true[: third + 130] + true[third + 150 :], first + 70, b"\x91\x3c")
+    many, other = many[: first + 20] + many[first + 37 :], other[: begin - 60] + other[begin - 49 :]
+    yield told(bench, "in one frame of each of two copies, which lost bytes in two places each", [many, other], true)
     yield told(bench, "and one zero behind each copy", [twice(true, second + 60, 100) + b"\0", zeros + b"\0"], true + b"\0")
 
 
@@ -289,8 +293,22 @@ def checks_of_other_sectors(bench: Bench, rng: random.Random) -> Iterator[Check]
     other = changed(true, (sector, true[sector + 2048 : sector + 2560]))
     for copies in ([more, other, zeros], [other, zeros, more]):
         yield told(bench, "bytes put in, and another sector over the header of the item", copies, true)
+    ones = changed(true, (sector, b"\xff" * 512))
+    for name, copy in (("bytes put in", more), ("a block twice", twice(true, sector + 1500, 1024))):
+        yield told(bench, f"{name}, and the other copy lost the sector with the header of the item", [copy, ones], true)
+    yield from checks_of_lost_headers(bench, rng)
     lies = changed(true, (big.items[0] + 4, b"\x10\x20\x00\x00"))
     yield told(bench, "bytes put in, and another length of the item", [more, lies, zeros], true, False, 1)
+
+
+def checks_of_lost_headers(bench: Bench, rng: random.Random) -> Iterator[Check]:
+    """Bytes of a text were lost in a copy that lost the header of its element too, and the length that the other copy has is damaged."""
+    small = File([frame(rng, 8, 16, 12, bench.folder)], 8, 16, 12)
+    true, begin = with_value(small, b"".join(b"sSlice[%d].dTra = %d\n" % (at, at * 7) for at in range(200)))
+    length = struct.unpack_from("<I", true, begin - 4)[0]
+    fewer = changed(true, (begin - 4, struct.pack("<I", length - 2)))
+    lost = changed(true[: begin + 1300] + true[begin + 1302 :], ((begin - 4) // 512 * 512, b"\xff" * 512))
+    yield told(bench, "two bytes of a text lost with its header, and the other copy's length fits", [lost, fewer], true, False, 1)
 
 
 def checks_of_records(bench: Bench, made: File, rng: random.Random) -> Iterator[Check]:

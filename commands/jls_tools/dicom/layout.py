@@ -86,10 +86,12 @@ class Layout:
 
     def is_in_item(self, place: int) -> bool:
         """Whether a place stands within an item of Pixel Data: a fragment of a frame, or the offset table."""
-        items = [fragment for each in self.places for fragment in each.fragments]
-        if self.fragments is not None and self.fragments.table is not None:
-            items.append((self.fragments.table.value, self.fragments.table.end))
-        return any(begin < place < end for begin, end in items)
+        table = None if self.fragments is None else self.fragments.table
+        return self.is_in_frame(place) or table is not None and table.value < place < table.end
+
+    def is_in_frame(self, place: int) -> bool:
+        """Whether a place stands within a fragment of a frame."""
+        return any(begin < place < end for each in self.places for begin, end in each.fragments)
 
     def is_in_length(self, place: int, size: int) -> bool:
         """Whether a place stands within a sequence, or an item of one, that says how long it is: no element was lost in it.
@@ -101,23 +103,27 @@ class Layout:
         return bool(holders) and not any(self.can_begin_at(each.end - size) for each in holders)
 
     def is_held_alike(self, place: int) -> bool:
-        """Whether all copies have the same headers of the elements and items that hold a place."""
+        """Whether all copies have the same headers of the elements and items that hold a place.
+
+        Of the item of a frame one header is enough where the other copies lost it: the frame, which has to read, confirms how long it is.
+        """
+        least = 1 if self.is_in_frame(place) else 2
         for step in self.structure.steps:
             element = step.element
             if element is None or element.length == UNDEFINED or not element.start <= place <= element.end:
                 continue
-            if not self.is_alike(element.start, element.value):
+            if not self.is_alike(element.start, element.value, least):
                 return False
         return True
 
-    def is_alike(self, begin: int, end: int) -> bool:
-        """Whether all copies have the same bytes in a range, but for those that lost them or their sector, where two others have them."""
-        return all(self.is_part_alike(*part) for part in cut_at_sectors(begin, end))
+    def is_alike(self, begin: int, end: int, least: int = 2) -> bool:
+        """Whether all copies have the same bytes in a range, but for those that lost them or their sector, where enough others don't."""
+        return all(self.is_part_alike(*part, least) for part in cut_at_sectors(begin, end))
 
-    def is_part_alike(self, begin: int, end: int) -> bool:
+    def is_part_alike(self, begin: int, end: int, least: int) -> bool:
         there = [copy for copy in self.copies if not clipped(copy.seen, begin, end) and not copy.lacks(begin, end)]
         well = [copy for copy in there if not is_another_sector(copy, there, begin // SECTOR * SECTOR)]
-        own = well if len(well) > 1 else self.copies
+        own = well if len(well) >= least else self.copies
         return len({copy.data[begin:end] for copy in own}) == 1 and not any(copy.lacks(begin, end) for copy in own)
 
     def goes_on(self, place: int, size: int) -> bool:

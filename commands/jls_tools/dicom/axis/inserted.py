@@ -1,8 +1,9 @@
 """Bytes that one copy alone has and that were put into it: a block written twice, or bytes of something else.
 
-Elements and items go on only without them, by lengths that all copies have: so none of these is damaged. But in a header the other copies
-can have lost as many bytes as an element has, and read on; noise can be over that element. So there the bytes have to be fewer than an
-element has, stand twice, or lie in a value that goes on for as many bytes.
+Elements and items go on only without them, by lengths that all copies have: so none of these is damaged. Of the item of a frame one is
+enough where the others lost it, as the frame has to read. But in a header the other copies can have lost as many bytes as an element has,
+and read on; noise can be over that element. So there the bytes have to be fewer than an element has, stand twice, or lie in a value that
+goes on for as many bytes.
 """
 from __future__ import annotations
 
@@ -15,7 +16,7 @@ from jls_tools.dicom.axis.bad_places import END, Range, in_all
 from jls_tools.dicom.read.elements import PIXELS_BEGIN
 from jls_tools.dicom.read.tags import PREAMBLE
 
-MOST_INSERTED = 4  # ranges, of which each combination is tried
+MOST_INSERTED = 6  # ranges, of which each combination is tried
 MOST_STEPS = 1 << 18  # of elements and items, which all of these may take: those of a file of many frames are some ten thousands
 SMALLEST_ELEMENT = 8  # bytes: a tag, a VR and a length
 LEAST_TWICE = 16  # so many bytes, at least, stand twice by no chance
