@@ -10,7 +10,7 @@ from typing import Any
 from dicom_files import File, changed
 from jls_tools.dicom import layout
 from jls_tools.dicom.axis import bad_places, in_filler, inserted, stuck
-from jls_tools.dicom.axis.align import Copy
+from jls_tools.dicom.axis.align import Copy, in_same_places
 from jls_tools.dicom.axis.pieces import meet_again, pieces
 from jls_tools.dicom.axis.sectors import Pair
 from jls_tools.dicom.copies.instance import Instances
@@ -96,6 +96,21 @@ def checks_of_put_in_by_hand(rng: random.Random) -> Iterator[Check]:
         own.can_begin_at = lambda at, is_there=is_there: is_there and at == 280
         name = "a sequence that can have taken an element in" if is_there else "a sequence"
         yield f"bytes of {name}: {not is_there}", layout.Layout.is_in_length(own, 250, 20) != is_there
+
+
+def checks_of_losses_by_hand(rng: random.Random) -> Iterator[Check]:
+    """A loss beside noise is put where another copy lost as many bytes, unless far more bytes of the noise are equal elsewhere."""
+    base = rng.randbytes(400)
+    lost, wrong = (100, 116), (110, 126)
+    for equal, is_moved in ((0, True), (3, True), (4, False)):
+        noise = bytes(byte ^ 0x55 for byte in base[90:100] + base[116:126])
+        noise = noise[:10] + base[100 : 100 + equal] + noise[10 + equal :]
+        pairs = zip(noise[10 + equal :], base[100 + equal :], base[116 + equal :])
+        apart = bytes(one ^ 0xFF if one in pair else one for one, *pair in pairs)
+        text = base[:90] + noise[: 10 + equal] + apart + base[110:]
+        copies = [Copy("a", base), Copy("b", base, [lost]), Copy("c", text, [wrong])]
+        found = in_same_places(copies)[2].absent
+        yield f"a loss beside noise, of which {equal} bytes are equal there ({found})", found == [lost if is_moved else wrong]
 
 
 def checks_of_places_by_hand(rng: random.Random) -> Iterator[Check]:
@@ -214,4 +229,4 @@ def checks_of_folders_by_hand(folder: str) -> Iterator[Check]:
 
 
 BY_HAND = [checks_of_copies_by_hand, checks_of_elements_by_hand, checks_of_put_in_by_hand, checks_of_places_by_hand]
-BY_HAND += [checks_of_frames_by_hand, checks_of_folders_by_hand]
+BY_HAND += [checks_of_frames_by_hand, checks_of_folders_by_hand, checks_of_losses_by_hand]

@@ -12,7 +12,7 @@ from typing import Optional
 
 from jls_tools.dicom.axis.apart import differing, size_of
 from jls_tools.dicom.axis.chains import Chain
-from jls_tools.dicom.axis.one_loss import both_places_of, cost_of, place_of
+from jls_tools.dicom.axis.one_loss import BYTE, PLACE, both_places_of, cost_of, place_of
 from jls_tools.dicom.axis.pieces import SHIFTED, pieces
 from jls_tools.dicom.axis.sectors import is_noise
 
@@ -189,15 +189,20 @@ def in_common(one: bytes, other: bytes, gaps: Gaps) -> int:
 
 
 def in_same_places(copies: Sequence[Copy]) -> list[Copy]:
-    """The copies with a loss where another copy lost as many bytes, if no more bytes differ then: there one more event says nothing."""
+    """The copies with a loss where another copy lost as many bytes, if hardly more bytes differ then.
+
+    There one more event says nothing, and costs more than some bytes do: in a sector of noise as many are equal by chance.
+    """
     found = list(copies)
     for number in range(len(copies)):
         others = found[:number] + found[number + 1 :]
+        saved = PLACE // BYTE * len(others)
         for loss in found[number].lost:
             parts = {part for other in others for part in other.lost if part[1] - part[0] == loss[1] - loss[0]}
             ways = [with_loss_at(found[number], loss, part, others) for part in sorted(parts - set(found[number].absent))]
-            best = min([found[number], *ways], key=lambda way: (apart_from(way, others), way is found[number]))
-            found[number] = best
+            best = min(ways, key=lambda way: apart_from(way, others), default=found[number])
+            if apart_from(best, others) <= apart_from(found[number], others) + saved:
+                found[number] = best
     return found
 
 
