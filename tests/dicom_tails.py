@@ -92,6 +92,10 @@ def of_padded_copies(bench: Bench, made: File, rest: bytes) -> Iterator[Check]:
     yield case(bench, "the same zeros, and a third copy is cut", [whole, damaged(made) + bytes(100), true[:-60]], 0, whole, "every copy")
     for other in (true[:-60], damaged(made) + bytes(2), more_in_frame(made) + bytes(2)):
         yield case(bench, "a rest of several values, and none or zeros", [true + rest, other], 1, b"", "OUT is not written")
+    zeros, lost = bytes(2), true[:inside] + true[inside + 16 :]
+    for order in ([true + zeros, lost + zeros], [lost + zeros, true + zeros]):
+        yield case(bench, "the same zeros behind two copies, of which one lost bytes", order, 0, true + zeros, "every copy has them")
+    yield case(bench, "zeros, and a copy that lost bytes and its end", [true + zeros, lost[:-42] + zeros], 1, b"", "OUT is not written")
     hidden = [changed(true, (len(true) - 42, bytes(size)), (len(true) - 9, b"x")) for size in (5, 9)]
     yield case(bench, "an element whose header is zeroed in each, and not its value", hidden, 1, b"", "OUT is not written")
 

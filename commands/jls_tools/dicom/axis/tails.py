@@ -75,7 +75,9 @@ def without_tails(texts: list[bytes]) -> Tails:
     borders = [end if own is None else own for own in owns]
     tails = list(dict.fromkeys(texts[at][borders[at] :] for at in longer))
     if len(tails) == 1:
-        found.is_decided = len(texts) == 1 or len(longer) > 1
+        shorter = [at for at, text in enumerate(texts) if at not in longer and has_tail(text, owns[at], texts[longer[0]][:end], tails[0])]
+        found.is_decided = len(texts) == 1 or len(longer) + len(shorter) > 1
+        with_tails += shorter if found.is_decided else []
     elif any(own is None and len(text) > end for own, text in zip(ends, texts)) or are_of_one_element(tails):
         return found
     else:
@@ -164,6 +166,11 @@ def end_in_both(texts: list[bytes], at: int, end: Optional[int], likely: Optiona
     if end is None and any(stands_in(text[border:], other) for other in others):
         return None
     return border if others else None
+
+
+def has_tail(text: bytes, own: Optional[int], other: bytes, tail: bytes) -> bool:
+    """Whether a copy that lost bytes has a tail too, just behind what another one ends with. `own` is where its elements may end."""
+    return own is not None and text[own:] == tail and is_one_end(text[:own], other)
 
 
 def stands_in(tail: bytes, other: bytes) -> bool:
