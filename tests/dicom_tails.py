@@ -95,6 +95,9 @@ def of_padded_copies(bench: Bench, made: File, rest: bytes) -> Iterator[Check]:
     zeros, lost = bytes(2), true[:inside] + true[inside + 16 :]
     for order in ([true + zeros, lost + zeros], [lost + zeros, true + zeros]):
         yield case(bench, "the same zeros behind two copies, of which one lost bytes", order, 0, true + zeros, "every copy has them")
+    more = bytes(300)
+    far = true[:inside] + true[inside + 400 :] + more
+    yield case(bench, "more zeros behind two copies, of which one lost more", [true + more, far], 0, true + more, "every copy has them")
     yield case(bench, "zeros, and a copy that lost bytes and its end", [true + zeros, lost[:-42] + zeros], 1, b"", "OUT is not written")
     hidden = [changed(true, (len(true) - 42, bytes(size)), (len(true) - 9, b"x")) for size in (5, 9)]
     yield case(bench, "an element whose header is zeroed in each, and not its value", hidden, 1, b"", "OUT is not written")
